@@ -14,4 +14,4 @@ pub record Rows (V : Type 0) : Type 0 where
 -- a word that was taken is told again, and so are the words before it
 pub record Told-again {V : Type 0} (rows : Rows V) : Type 0 where
   pub itself : (k n : ℕ) (v w : V) → 0 < k → k < rows .words → rows .takes k n v ≡ Some w → rows .tells k w ≡ n
-  pub before : (j k n : ℕ) (v w : V) → 0 < j → j < k → rows .takes k n v ≡ Some w → rows .tells j w ≡ rows .tells j v
+  pub before : (j k n : ℕ) (v w : V) → 0 < j → j < k → k < rows .words → rows .takes k n v ≡ Some w → rows .tells j w ≡ rows .tells j v

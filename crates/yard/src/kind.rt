@@ -1,9 +1,10 @@
 //! A kind of order: what its cells hold, and what its orders make of that.
 
+ghost use mathlib.Core.Bool.{Bool};
 ghost use mathlib.Core.Path.{_≡_};
 ghost use Rattle.yard.specs.Rules.{Rules, Looks, asked};
 ghost use Rattle.yard.specs.Rows.{Rows, Told-again};
-ghost use Rattle.yard.specs.Equal.{Equality};
+ghost use Rattle.yard.specs.Equal.{Tells-equal};
 ghost use Rattle.yard.specs.Told.{made};
 use crate::made::Made;
 
@@ -18,10 +19,13 @@ pub trait Kind {
 
     ghost rows: { Rows Self·Value };
 
-    ghost equals: { Equality Self·Value };
+    ghost equals: { Self·Value → Self·Value → Bool };
 
     // a looking order that passes gives back the value that it saw
     law looks: { Looks rules };
+
+    // two values are told to be equal just where they are
+    law equality: { Tells-equal equals };
 
     // a row's words can be told again from the value that was made of them
     law retells: { Told-again rows };
@@ -47,7 +51,7 @@ pub trait Kind {
         ensures { λ r. ⌜ r ≡ rows .tells place value ⌝ };
 
     fn equal(one: Self::Value, other: Self::Value) -> bool
-        ensures { λ r. ⌜ r ≡ equals .test one other ⌝ };
+        ensures { λ r. ⌜ r ≡ equals one other ⌝ };
 
     /// Whether some order of the kind has this letter.
     fn has_letter(letter: char) -> bool
