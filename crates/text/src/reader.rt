@@ -1,10 +1,9 @@
-//! The reader of a sheet: it stands on the sheet's bytes, keeps its place and its line, and gives words.
+//! The reader of a sheet: it stands on the sheet's bytes and keeps its place and the number of its line.
 
-ghost use mathlib.Core.Path.{_≡_};
-ghost use mathlib.Core.Bool.{Bool};
-ghost use lib.Dec.{eqb};
-ghost use Prim.Native.Nat.{ℕ, _+_, _≤_};
+ghost use Prim.Native.Nat.{_+_, _≤_};
 ghost use lib.ListN.{length};
+
+pub mod giving;
 
 #[derive(Drop)]
 pub struct Reader<'a> {
@@ -14,5 +13,3 @@ pub struct Reader<'a> {
     ghost within: { place ≤ length (sheet .now) },
     ghost counted: { line ≤ place + 1 },
 }
-
-
