@@ -1,0 +1,3 @@
+-- The lemmas that the answers share.
+pub mod Cells
+pub mod Changes

@@ -1,0 +1,7 @@
+//! Sheets: the kind of a yard, what its cells hold, the moves of a batch and the choices among them.
+
+pub mod counts;
+pub mod faults;
+pub mod lines;
+mod sections;
+pub mod slips;
