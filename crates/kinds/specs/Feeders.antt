@@ -33,8 +33,8 @@ feederRules = record {
   letters = λ l. eqb l 65 || eqb l 83 || eqb l 72;
   knows = feederKnows;
   writes = λ l n. eqb l 65 || eqb l 83;
-  makes = λ l n v. cond (eqb l 65) (addLoad n v) (cond (eqb l 83) (shedLoad n v) (lookForRoom n v))
-  }
+  makes = λ l n v. cond (eqb l 65) (addLoad n v) (cond (eqb l 83) (shedLoad n v) (lookForRoom n v));
+}
 
 abbrev pub feederRows : Rows Section
 feederRows = record {
@@ -42,8 +42,8 @@ feederRows = record {
   words = 3;
   unnamed = section 0 0;
   takes = λ k n v. cond (leb n 4000) (Some (cond (eqb k 1) (section n (v .limit)) (section (v .load) n))) None;
-  tells = λ k v. cond (eqb k 1) (v .load) (v .limit)
-  }
+  tells = λ k v. cond (eqb k 1) (v .load) (v .limit);
+}
 
 abbrev pub sameSection : Section → Section → Bool
 sameSection v w = eqb (v .load) (w .load) && eqb (v .limit) (w .limit)

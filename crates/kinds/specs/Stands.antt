@@ -29,8 +29,8 @@ standRules = record {
   letters = λ l. eqb l 84 || eqb l 80 || eqb l 76;
   knows = standKnows;
   writes = λ l n. eqb l 84 || eqb l 80;
-  makes = λ l n v. cond (eqb l 84) (takeTram n v) (cond (eqb l 80) (putTram n v) (lookForTram n v))
-  }
+  makes = λ l n v. cond (eqb l 84) (takeTram n v) (cond (eqb l 80) (putTram n v) (lookForTram n v));
+}
 
 abbrev pub standRows : Rows ℕ
 standRows = record {
@@ -38,5 +38,5 @@ standRows = record {
   words = 2;
   unnamed = 0;
   takes = λ k n v. cond (leb n 9999) (Some n) None;
-  tells = λ k v. v
-  }
+  tells = λ k v. v;
+}

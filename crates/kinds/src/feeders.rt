@@ -45,8 +45,14 @@ pub impl Kind for Feeders as FeedersKind {
             return None;
         }
         match place {
-            1 => Some(Section { load: word, limit: value.limit }),
-            _ => Some(Section { load: value.load, limit: word }),
+            1 => Some(Section {
+                load: word,
+                limit: value.limit,
+            }),
+            _ => Some(Section {
+                load: value.load,
+                limit: word,
+            }),
         }
     }
 
@@ -102,7 +108,10 @@ fn add(number: u16, value: Section) -> Made<Section>
     ensures { λ r. ⌜ made r ≡ Some (addLoad number value) ⌝ }
 {
     match value.load.checked_add(number) {
-        Some(load) if load <= value.limit => Made::Value(Section { load, limit: value.limit }),
+        Some(load) if load <= value.limit => Made::Value(Section {
+            load,
+            limit: value.limit,
+        }),
         _ => Made::Cause(Cause::AboveLimit),
     }
 }
@@ -111,7 +120,10 @@ fn shed(number: u16, value: Section) -> Made<Section>
     ensures { λ r. ⌜ made r ≡ Some (shedLoad number value) ⌝ }
 {
     if number <= value.load {
-        Made::Value(Section { load: value.load - number, limit: value.limit })
+        Made::Value(Section {
+            load: value.load - number,
+            limit: value.limit,
+        })
     } else {
         Made::Cause(Cause::BelowZero)
     }

@@ -98,11 +98,19 @@ fn take(number: u16, value: u16) -> Made<u16>
 fn put(number: u16, value: u16) -> Made<u16>
     ensures { λ r. ⌜ made r ≡ Some (putTram number value) ⌝ }
 {
-    if value == 0 { Made::Value(number) } else { Made::Cause(Cause::StandTaken) }
+    if value == 0 {
+        Made::Value(number)
+    } else {
+        Made::Cause(Cause::StandTaken)
+    }
 }
 
 fn look(number: u16, value: u16) -> Made<u16>
     ensures { λ r. ⌜ made r ≡ Some (lookForTram number value) ⌝ }
 {
-    if value == number { Made::Value(value) } else { Made::Cause(Cause::NotAsLooked) }
+    if value == number {
+        Made::Value(value)
+    } else {
+        Made::Cause(Cause::NotAsLooked)
+    }
 }

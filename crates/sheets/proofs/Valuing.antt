@@ -36,9 +36,11 @@ module _ {V : Type 0} (rows : Rows V) {whole : Result (Read V) LineFault} {k : �
   no-value l word e t = read-word l (Ok word) e ∙ ap (λ o. given o (inWord (k + 1) OutOfRange) (λ w. rowValue rows (rows .words - (k + 1)) (k + 1) w (pastWord h))) t
 
   pub longer : k < rows .words → (word : ℕ) (w : V) (h′ : Here) → numberAt (k + 1) h ≡ Ok word → rows .takes k word v ≡ Some w → h′ ≡ pastWord h → Sofar rows whole (k + 1) w h′
-  longer l word w h′ e t p = record { same =
-      ap (rowValue rows (rows .words - (k + 1)) (k + 1) w) p
-      ∙ sym (read-word l (Ok word) e ∙ ap (λ o. given o (inWord (k + 1) OutOfRange) (λ w. rowValue rows (rows .words - (k + 1)) (k + 1) w (pastWord h))) t) }
+  longer l word w h′ e t p = record {
+    same =
+        ap (rowValue rows (rows .words - (k + 1)) (k + 1) w) p
+        ∙ sym (read-word l (Ok word) e ∙ ap (λ o. given o (inWord (k + 1) OutOfRange) (λ w. rowValue rows (rows .words - (k + 1)) (k + 1) w (pastWord h))) t);
+  }
 
   pub done : rows .words - k ≡ 0 → whole ≡ Ok (read v h)
   done z = sym (s .same) ∙ ap (λ n. rowValue rows n k v h) z

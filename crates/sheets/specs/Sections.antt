@@ -1,7 +1,7 @@
 -- The sections of a sheet: so many lines of one sort, read one after another.
 use mathlib.Core.List.{List, [], _∷_, _++_}
 use Prim.Native.Nat.{ℕ, zero, suc, _+_}
-use lib.ListN.{length, set}
+use lib.ListN.{length, set, replicate}
 use Rattle.std.specs.declared.result.Result.{Result}
 use Rattle.std.specs.declared.result.Result.the-variants.{Ok, Err}
 use Rattle.text.specs.declared.faults.LineFault.{LineFault}
@@ -43,6 +43,15 @@ rowInto rows cells o h =
 -- n rows, over the values vs
 abbrev pub rowsOver : {V : Type 0} → Rows V → ℕ → ℕ → List V → Here → Result (Read (List V)) AtLine
 rowsOver rows cells n vs h = andThen (repeat n (rowInto rows cells) (occupied 0 vs) h) (λ r. Ok (read (r .got .values) (r .then)))
+
+-- n rows, over cells that no row has named
+abbrev pub rowsRead : {V : Type 0} → Rows V → ℕ → ℕ → Here → Result (Read (List V)) AtLine
+rowsRead rows cells n h = rowsOver rows cells n (replicate cells (rows .unnamed)) h
+
+-- the values that were read, if they were
+abbrev pub valuesRead : {V : Type 0} → Result (Read (List V)) AtLine → List V
+valuesRead (Ok r) = r .got
+valuesRead (Err e) = []
 
 -- a move and all the steps up to its end
 pub record Moved : Type 0 where

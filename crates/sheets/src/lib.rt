@@ -3,5 +3,7 @@
 pub mod counts;
 pub mod faults;
 pub mod lines;
+pub mod read;
 mod sections;
+mod sheet;
 pub mod slips;

@@ -13,14 +13,42 @@ impl SheetFault {
         ensures { λ r. ⌜ r ≡ told self ⌝ }
     {
         match self {
-            SheetFault::TooLong => Slip { number: 10, line: 0, word: 0 },
-            SheetFault::ListTooShort => Slip { number: 11, line: 0, word: 0 },
+            SheetFault::TooLong => Slip {
+                number: 10,
+                line: 0,
+                word: 0,
+            },
+            SheetFault::ListTooShort => Slip {
+                number: 11,
+                line: 0,
+                word: 0,
+            },
             SheetFault::Line(AtLine { line, fault }) => match fault {
-                LineFault::Shape => Slip { number: 3, line, word: 0 },
-                LineFault::NotRising => Slip { number: 7, line, word: 0 },
-                LineFault::TooManySteps => Slip { number: 8, line, word: 0 },
-                LineFault::Lacking => Slip { number: 9, line, word: 0 },
-                LineFault::Word(at) => Slip { number: word_number(at.fault), line, word: at.word },
+                LineFault::Shape => Slip {
+                    number: 3,
+                    line,
+                    word: 0,
+                },
+                LineFault::NotRising => Slip {
+                    number: 7,
+                    line,
+                    word: 0,
+                },
+                LineFault::TooManySteps => Slip {
+                    number: 8,
+                    line,
+                    word: 0,
+                },
+                LineFault::Lacking => Slip {
+                    number: 9,
+                    line,
+                    word: 0,
+                },
+                LineFault::Word(at) => Slip {
+                    number: word_number(at.fault),
+                    line,
+                    word: at.word,
+                },
             },
         }
     }

@@ -71,7 +71,7 @@ module _ {line : List ℕ} {words : ℕ} {begun : Bool} (s : List ℕ) (i : ℕ)
       let p : parts (drop i s) ≡ grown (getD s i 0) (parts (drop (i + 1) s)) = stepped false (ne-eqb (getD s i 0) 32 e) in
       record {
         full = k .full ∙ ap (filledFrom begun) p ∙ grown-filled begun (getD s i 0) (parts (drop (i + 1) s));
-        count = k .count ∙ ap (λ n. words + n) (ap length p ∙ grown-length (getD s i 0) (parts (drop (i + 1) s)) (some-part (drop (i + 1) s)))
+        count = k .count ∙ ap (λ n. words + n) (ap length p ∙ grown-length (getD s i 0) (parts (drop (i + 1) s)) (some-part (drop (i + 1) s)));
       }
 
   pub past-word : getD s i 0 ≡ 32 → begun ≡ true → Sofar line (words + 1) false (drop (i + 1) s)
@@ -79,7 +79,7 @@ module _ {line : List ℕ} {words : ℕ} {begun : Bool} (s : List ℕ) (i : ℕ)
       let p : parts (drop i s) ≡ [] ∷ parts (drop (i + 1) s) = stepped true (eq-eqb (getD s i 0) 32 e) in
       record {
         full = k .full ∙ (λ j. filledFrom (b j) (p j)) ∙ sym (filledFrom-all (parts (drop (i + 1) s)));
-        count = let c = k .count in let l = ap length p in omega arith
+        count = let c = k .count in let l = ap length p in omega arith;
       }
 
   pub no-word : getD s i 0 ≡ 32 → begun ≡ false → (n : ℕ) → false ≡ hasWords n line
@@ -94,12 +94,13 @@ all-seen {line} {words} {begun} s i h k n =
     let f : allFilled (parts line) ≡ begun || false = k .full ∙ ap (filledFrom begun) p ∙ either begun in
     let c : length (parts line) ≡ words = let c = k .count in let l = ap length p in omega arith in
     sym ((λ j. f j && eqb (c j) n) ∙ ap (λ b. b && eqb words n) (same begun)) where
-  either : (b : Bool) → (b || false) && true ≡ b || false
-  either true = refl
-  either false = refl
-  same : (b : Bool) → b || false ≡ b
-  same true = refl
-  same false = refl
+      either : (b : Bool) → (b || false) && true ≡ b || false
+      either true = refl
+      either false = refl
+
+      same : (b : Bool) → b || false ≡ b
+      same true = refl
+      same false = refl
 
 pub at-state : {line : List ℕ} {words words′ : ℕ} {begun begun′ : Bool} {bs : List ℕ} → words′ ≡ words → begun′ ≡ begun → Sofar line words begun bs → Sofar line words′ begun′ bs
 at-state {line} {words} {words′} {begun} {begun′} {bs} e f k = record { full = k .full ∙ ap (λ b. filledFrom b (parts bs)) (sym f); count = k .count ∙ ap (λ n. n + length (parts bs)) (sym e) }

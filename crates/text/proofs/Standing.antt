@@ -49,7 +49,7 @@ module _ (s rest : List ℕ) (p k e : ℕ) (r : rest ≡ drop p s) (h : e ≡ up
       let c : eqb (getD (drop p s) (upTo 32 10 (drop p s)) 0) 10 ≡ false = ap (λ b. eqb b 10) (getD-past (drop p s) (upTo 32 10 (drop p s)) 0 (omega (arith, ending))) in
       let line : k ≡ k + cond (eqb (getD (drop p s) (upTo 32 10 (drop p s)) 0) 10) 1 0 = omega (arith, ap {B = ℕ} (λ t. cond t 1 0) c) in
       let bytes : drop (length s) s ≡ drop (upTo 32 10 (drop p s) + 1) (drop p s) =
-        drop-all (length s) s (omega arith) ∙ sym (drop-all (upTo 32 10 (drop p s) + 1) (drop p s) (omega (arith, ending))) in
+      drop-all (length s) s (omega arith) ∙ sym (drop-all (upTo 32 10 (drop p s) + 1) (drop p s) (omega (arith, ending))) in
       λ i. standing (line i) (bytes i)
 
   bytes-after : drop (p + e + 1) s ≡ drop (upTo 32 10 (drop p s) + 1) (drop p s)

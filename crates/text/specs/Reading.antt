@@ -32,8 +32,8 @@ nothingLeft h = eqb (length (h .bytes)) 0
 abbrev pub pastWord : Here → Here
 pastWord h = record {
   line = h .line + cond (eqb (getD (h .bytes) (upTo 32 10 (h .bytes)) 0) 10) 1 0;
-  bytes = drop (upTo 32 10 (h .bytes) + 1) (h .bytes)
-  }
+  bytes = drop (upTo 32 10 (h .bytes) + 1) (h .bytes);
+}
 
 -- past so many words
 abbrev pub past : ℕ → Here → Here

@@ -5,7 +5,7 @@ ghost use lib.ListN.{length};
 
 pub mod giving;
 
-#[derive(Drop)]
+#[derive(Clone, Copy)]
 pub struct Reader<'a> {
     sheet: &'a [u8],
     place: usize,

@@ -5,11 +5,11 @@ use Rattle.std.specs.declared.option.Option.{Option}
 use Rattle.std.specs.declared.option.Option.the-variants.{Some, None}
 
 pub record Rows (V : Type 0) : Type 0 where
-  pub letter : ℕ                         -- the letter of the kind's sheets, by its code
-  pub words : ℕ                          -- the words of a row, the cell among them
-  pub unnamed : V                        -- the value of a cell that no row names
-  pub takes : ℕ → ℕ → V → Option V       -- the value with the word at a place; nothing where the word is out of range
-  pub tells : ℕ → V → ℕ                  -- the word at a place
+  pub letter : ℕ  -- the letter of the kind's sheets, by its code
+  pub words : ℕ  -- the words of a row, the cell among them
+  pub unnamed : V  -- the value of a cell that no row names
+  pub takes : ℕ → ℕ → V → Option V  -- the value with the word at a place; nothing where the word is out of range
+  pub tells : ℕ → V → ℕ  -- the word at a place
 
 -- a word that was taken is told again, and so are the words before it
 pub record Told-again {V : Type 0} (rows : Rows V) : Type 0 where

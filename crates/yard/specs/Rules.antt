@@ -11,10 +11,10 @@ pub data Effect (V : Type 0) : Type 0 where
   fails : ℕ → Effect V
 
 pub record Rules (V : Type 0) : Type 0 where
-  pub letters : ℕ → Bool                 -- some order has this letter
-  pub knows : ℕ → ℕ → Bool               -- the order is one of the kind's
-  pub writes : ℕ → ℕ → Bool              -- the order writes its cell; else it looks
-  pub makes : ℕ → ℕ → V → Effect V       -- what a known order makes of a value
+  pub letters : ℕ → Bool  -- some order has this letter
+  pub knows : ℕ → ℕ → Bool  -- the order is one of the kind's
+  pub writes : ℕ → ℕ → Bool  -- the order writes its cell; else it looks
+  pub makes : ℕ → ℕ → V → Effect V  -- what a known order makes of a value
 
 -- a looking order that passes gives back the value that it saw
 abbrev pub Looks : {V : Type 0} → Rules V → Type 0

@@ -45,7 +45,10 @@ pub fn occupancy_line(reader: &mut Reader) -> Result<u16, LineFault>
 {
     let count = count_line(reader, 'O', 1024)?;
     if count == 0 {
-        return Err(LineFault::Word(AtWord { word: 2, fault: WordFault::NoRows }));
+        return Err(LineFault::Word(AtWord {
+            word: 2,
+            fault: WordFault::NoRows,
+        }));
     }
     Ok(count)
 }
@@ -58,7 +61,10 @@ fn row_value<K: Kind>(reader: &mut Reader) -> Result<K::Value, LineFault>
     for place in 1..K::words_in_row() {
         let word = reader.number(place + 1)?;
         let Some(longer) = K::with_word(value, place, word) else {
-            return Err(LineFault::Word(AtWord { word: place + 1, fault: WordFault::OutOfRange }));
+            return Err(LineFault::Word(AtWord {
+                word: place + 1,
+                fault: WordFault::OutOfRange,
+            }));
         };
         value = longer;
     }
@@ -66,7 +72,11 @@ fn row_value<K: Kind>(reader: &mut Reader) -> Result<K::Value, LineFault>
 }
 
 /// A row: its cell, which is at least `low`, and its value.
-pub fn row_line<K: Kind>(reader: &mut Reader, cells: u16, low: u16) -> Result<Row<K::Value>, LineFault>
+pub fn row_line<K: Kind>(
+    reader: &mut Reader,
+    cells: u16,
+    low: u16,
+) -> Result<Row<K::Value>, LineFault>
     ensures answer { λ r. ⌜ answered r (here (now (reader .exit))) ≡ rowLine (K·Kind .rows) cells low (here (now (reader .entry))) ⌝ }
     ensures bound { λ r. ⌜ made r (λ row. row .cell < cells) ⌝ }
 {
@@ -90,7 +100,11 @@ pub fn move_line(reader: &mut Reader, first: u16) -> Result<Move, LineFault>
     if u32::from(first) + u32::from(count) > 1024 {
         return Err(LineFault::TooManySteps);
     }
-    Ok(Move { label, first, count })
+    Ok(Move {
+        label,
+        first,
+        count,
+    })
 }
 
 pub fn step_line<K: Kind>(reader: &mut Reader, cells: u16) -> Result<Step, LineFault>
@@ -99,14 +113,24 @@ pub fn step_line<K: Kind>(reader: &mut Reader, cells: u16) -> Result<Step, LineF
     reader.line_there(3)?;
     let letter = reader.letter(1)?;
     if !K::has_letter(letter) {
-        return Err(LineFault::Word(AtWord { word: 1, fault: WordFault::WrongLetter }));
+        return Err(LineFault::Word(AtWord {
+            word: 1,
+            fault: WordFault::WrongLetter,
+        }));
     }
     let cell = reader.number_below(2, cells)?;
     let number = reader.number(3)?;
     if !K::knows(letter, number) {
-        return Err(LineFault::Word(AtWord { word: 3, fault: WordFault::OutOfRange }));
+        return Err(LineFault::Word(AtWord {
+            word: 3,
+            fault: WordFault::OutOfRange,
+        }));
     }
-    Ok(Step { letter, cell, number })
+    Ok(Step {
+        letter,
+        cell,
+        number,
+    })
 }
 
 /// A choice: the place of one of the moves.

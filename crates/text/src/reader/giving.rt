@@ -19,7 +19,11 @@ impl<'a> Reader<'a> {
     pub fn new(sheet: &'a [u8]) -> Reader<'a>
         ensures { λ r. ⌜ here r ≡ start (now (sheet .entry)) ⌝ }
     {
-        Reader { sheet, place: 0, line: 1 }
+        Reader {
+            sheet,
+            place: 0,
+            line: 1,
+        }
     }
 
     /// The number of the line, from 1.
@@ -89,7 +93,10 @@ impl<'a> Reader<'a> {
     {
         let number = self.number(word)?;
         if number < least || number > most {
-            return Err(AtWord { word, fault: WordFault::OutOfRange });
+            return Err(AtWord {
+                word,
+                fault: WordFault::OutOfRange,
+            });
         }
         Ok(number)
     }
@@ -101,7 +108,10 @@ impl<'a> Reader<'a> {
     {
         let number = self.number(word)?;
         if number >= end {
-            return Err(AtWord { word, fault: WordFault::OutOfRange });
+            return Err(AtWord {
+                word,
+                fault: WordFault::OutOfRange,
+            });
         }
         Ok(number)
     }
@@ -124,7 +134,10 @@ impl<'a> Reader<'a> {
     {
         let found = self.letter(word)?;
         if found != letter {
-            return Err(AtWord { word, fault: WordFault::WrongLetter });
+            return Err(AtWord {
+                word,
+                fault: WordFault::WrongLetter,
+            });
         }
         Ok(found)
     }

@@ -19,7 +19,7 @@ pub returns-in-Break-choices : need.returns-in-Break-choices
 returns-in-Break-choices c =
     let p = err-from-errBy (c .from-residual .result) (c .from-residual .ensures .1) in
     rw (p .1, p .2) (sym (refused (c .loop-i .inv) _ (omega arith) (unlisted (choiceLine (c .args .moves)) (take (c .loop-i .i) (c .loop-i .choices)) (here (c .loop-i .reader)) _
-      (placed (choiceLine (c .args .moves)) (here (c .loop-i .reader)) _ (c .line-line .result) (c .choice-line .result) (Err _) (c .line-line .ensures) (c .in-Break-choices .ensures tt) (c .choice-line .ensures)))))
+    (placed (choiceLine (c .args .moves)) (here (c .loop-i .reader)) _ (c .line-line .result) (c .choice-line .result) (Err _) (c .line-line .ensures) (c .in-Break-choices .ensures tt) (c .choice-line .ensures)))))
 
 pub loop-i-again : need.loop-i-again
 loop-i-again c =
@@ -27,8 +27,8 @@ loop-i-again c =
     let n : c .args .count - i ≡ suc (c .args .count - (i + 1)) = omega arith in
     let fits : i < length (c .loop-i .choices) = omega (arith, c .loop-i .kept .choices, c .pre) in
     more (c .loop-i .inv) (c .args .count - (i + 1)) _ _ n
-      (listed (choiceLine (c .args .moves)) (take i (c .loop-i .choices)) (here (c .loop-i .reader)) _ _ _ (take-more-set (c .loop-i .choices) i _ fits)
-        (placed (choiceLine (c .args .moves)) (here (c .loop-i .reader)) _ (c .line-line .result) (c .choice-line .result) (Ok _) (c .line-line .ensures) (c .in-Continue-choices .ensures tt) (c .choice-line .ensures)))
+    (listed (choiceLine (c .args .moves)) (take i (c .loop-i .choices)) (here (c .loop-i .reader)) _ _ _ (take-more-set (c .loop-i .choices) i _ fits)
+    (placed (choiceLine (c .args .moves)) (here (c .loop-i .reader)) _ (c .line-line .result) (c .choice-line .result) (Ok _) (c .line-line .ensures) (c .in-Continue-choices .ensures tt) (c .choice-line .ensures)))
 
 pub returns : need.returns
 returns c =

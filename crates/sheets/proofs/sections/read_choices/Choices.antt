@@ -10,4 +10,4 @@ use Rattle.sheets.proofs.sections.read_choices.Given as given
 abbrev pub Inv-loop-i : given.InvT-loop-i
 Inv-loop-i l =
     Sofar (listing (choiceLine (l .moves))) (repeat (l .count) (listing (choiceLine (l .moves))) [] (here (l .entry .reader)))
-      (l .count - l .i) (take (l .i) (l .choices)) (here (l .reader))
+    (l .count - l .i) (take (l .i) (l .choices)) (here (l .reader))

@@ -21,17 +21,18 @@ returns-in-Break-found g c =
     let p = err-from-errBy (c .from-residual .result) (c .from-residual .ensures .1) in
     rw (p .1, p .2) (record {
       answer = sym (refused (c .loop-i .inv .1) _ (omega arith) (move-out (g .K·Kind .rules) (c .args .cells) (take (c .loop-i .i) (c .loop-i .moves)) (take (c .loop-i .filled) (c .loop-i .steps)) (here (c .loop-i .reader)) _ (c .in-Break-found .ensures tt .answer)));
-      bound = tt
+      bound = tt;
     })
 
 pub loop-i-again : need.loop-i-again
 loop-i-again g c =
     let i = c .loop-i .i in
     let n : c .args .count - i ≡ suc (c .args .count - (i + 1)) = omega arith in
-    let fits : i < length (c .loop-i .moves) = omega (arith, c .loop-i .kept .moves, c .pre .moves) in
-    (omega (arith, c .in-Continue-found .ensures tt .bound),
-     more (c .loop-i .inv .1) (c .args .count - (i + 1)) _ _ n
-       (move-in (g .K·Kind .rules) (c .args .cells) (take i (c .loop-i .moves)) (take (c .loop-i .filled) (c .loop-i .steps)) (here (c .loop-i .reader)) (c .in-Continue-found .found) _ _ _ (take-more-set (c .loop-i .moves) i (c .in-Continue-found .found) fits) (c .in-Continue-found .ensures tt .answer)))
+    let fits : i < length (c .loop-i .moves) = omega (arith, c .loop-i .kept .moves, c .pre .moves) in (
+      omega (arith, c .in-Continue-found .ensures tt .bound),
+      more (c .loop-i .inv .1) (c .args .count - (i + 1)) _ _ n
+          (move-in (g .K·Kind .rules) (c .args .cells) (take i (c .loop-i .moves)) (take (c .loop-i .filled) (c .loop-i .steps)) (here (c .loop-i .reader)) (c .in-Continue-found .found) _ _ _ (take-more-set (c .loop-i .moves) i (c .in-Continue-found .found) fits) (c .in-Continue-found .ensures tt .answer)),
+    )
 
 pub returns : need.returns
 returns g c =
@@ -39,5 +40,5 @@ returns g c =
     let e : c .loop-i .i ≡ c .args .count = omega arith in
     record {
       answer = sym (done (c .loop-i .inv .1) z ∙ ap (λ n. Ok (read (movesOf (take n (c .loop-i .moves)) (take (c .loop-i .filled) (c .loop-i .steps))) (here (c .loop-i .reader)))) e);
-      bound = c .loop-i .inv .0
+      bound = c .loop-i .inv .0;
     }

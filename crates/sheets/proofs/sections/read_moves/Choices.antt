@@ -10,4 +10,4 @@ abbrev pub Inv-loop-i : given.InvT-loop-i
 Inv-loop-i g l =
     (l .filled ≤ 1024)
     × Sofar (moveInto (g .K·Kind .rules) (l .cells)) (repeat (l .count) (moveInto (g .K·Kind .rules) (l .cells)) (movesOf [] []) (here (l .entry .reader)))
-      (l .count - l .i) (movesOf (take (l .i) (l .moves)) (take (l .filled) (l .steps))) (here (l .reader))
+    (l .count - l .i) (movesOf (take (l .i) (l .moves)) (take (l .filled) (l .steps))) (here (l .reader))

@@ -1,7 +1,6 @@
 use mathlib.Core.Path.{_≡_, refl, sym, ap, _∙_}
 use Prim.Native.Nat.{_-_, _+_, _<_, suc}
 use native.Mathlib.Omega.{arith}
-use lib.ListN.{length, take, set}
 use Rattle.std.proofs.shelf.Results.{err-from-errBy}
 use Rattle.std.specs.declared.result.Result.the-variants.{Ok, Err}
 use Rattle.text.specs.Faults.{andThen}
@@ -16,8 +15,8 @@ pub returns-in-Break-row : need.returns-in-Break-row
 returns-in-Break-row g c =
     let p = err-from-errBy (c .from-residual .result) (c .from-residual .ensures .1) in
     let f = rowLine (g .K·Kind .rows) (c .args .cells) (c .loop-i .low) in
-    rw (p .1, p .2) (sym (rows-refused (refused (c .loop-i .inv) _ (omega arith) (row-out (g .K·Kind .rows) (c .args .cells) (c .loop-i .low) (take (c .args .cells) (c .loop-i .values)) (here (c .loop-i .reader)) _
-      (placed f (here (c .loop-i .reader)) _ (c .line-line .result) (c .row-line .result) (Err _) (c .line-line .ensures) (c .in-Break-row .ensures tt) (c .row-line .ensures .answer))))))
+    rw (p .1, p .2) (sym (rows-refused (refused (c .loop-i .inv) _ (omega arith) (row-out (g .K·Kind .rows) (c .args .cells) (c .loop-i .low) (c .loop-i .values) (here (c .loop-i .reader)) _
+    (placed f (here (c .loop-i .reader)) _ (c .line-line .result) (c .row-line .result) (Err _) (c .line-line .ensures) (c .in-Break-row .ensures tt) (c .row-line .ensures .answer))))))
 
 pub loop-i-again : need.loop-i-again
 loop-i-again g c =
@@ -25,8 +24,9 @@ loop-i-again g c =
     let f = rowLine (g .K·Kind .rows) (c .args .cells) (c .loop-i .low) in
     let n : c .args .count - i ≡ suc (c .args .count - (i + 1)) = omega arith in
     more (c .loop-i .inv) (c .args .count - (i + 1)) _ _ n
-      (row-in (g .K·Kind .rows) (c .args .cells) (c .loop-i .low) (c .loop-i .values) (here (c .loop-i .reader)) (c .in-Continue-row .row) _
-        (placed f (here (c .loop-i .reader)) _ (c .line-line .result) (c .row-line .result) (Ok _) (c .line-line .ensures) (c .in-Continue-row .ensures tt) (c .row-line .ensures .answer)))
+    (row-in (g .K·Kind .rows) (c .args .cells) (c .loop-i .low) (c .loop-i .values) (c .set-cell .last .values) (here (c .loop-i .reader)) (c .in-Continue-row .row) _
+    (c .set-cell .ensures)
+    (placed f (here (c .loop-i .reader)) _ (c .line-line .result) (c .row-line .result) (Ok _) (c .line-line .ensures) (c .in-Continue-row .ensures tt) (c .row-line .ensures .answer)))
 
 pub returns : need.returns
 returns g c =

@@ -20,7 +20,7 @@ returns-in-Break-steps g c =
     let p = err-from-errBy (c .from-residual .result) (c .from-residual .ensures .1) in
     let f = stepLine (g .K·Kind .rules) (c .args .cells) in
     rw (p .1, p .2) (sym (refused (c .loop-i .inv) _ (omega arith) (unlisted f (take (c .args .first + c .loop-i .i) (c .loop-i .steps)) (here (c .loop-i .reader)) _
-      (placed f (here (c .loop-i .reader)) _ (c .line-line .result) (c .step-line .result) (Err _) (c .line-line .ensures) (c .in-Break-steps .ensures tt) (c .step-line .ensures)))))
+    (placed f (here (c .loop-i .reader)) _ (c .line-line .result) (c .step-line .result) (Err _) (c .line-line .ensures) (c .in-Break-steps .ensures tt) (c .step-line .ensures)))))
 
 pub loop-i-again : need.loop-i-again
 loop-i-again g c =
@@ -30,9 +30,9 @@ loop-i-again g c =
     let fits : c .args .first + i < length (c .loop-i .steps) = omega (arith, c .loop-i .kept .steps, c .pre) in
     let long : c .args .first + (i + 1) ≡ c .args .first + i + 1 = omega arith in
     more (c .loop-i .inv) (c .args .count - (i + 1)) _ _ n
-      (listed f (take (c .args .first + i) (c .loop-i .steps)) (here (c .loop-i .reader)) _ _ _
-        (ap (λ k. take k (set (c .loop-i .steps) (c .args .first + i) (c .in-Continue-steps .field-0))) long ∙ take-more-set (c .loop-i .steps) (c .args .first + i) _ fits)
-        (placed f (here (c .loop-i .reader)) _ (c .line-line .result) (c .step-line .result) (Ok _) (c .line-line .ensures) (c .in-Continue-steps .ensures tt) (c .step-line .ensures)))
+    (listed f (take (c .args .first + i) (c .loop-i .steps)) (here (c .loop-i .reader)) _ _ _
+    (ap (λ k. take k (set (c .loop-i .steps) (c .args .first + i) (c .in-Continue-steps .field-0))) long ∙ take-more-set (c .loop-i .steps) (c .args .first + i) _ fits)
+    (placed f (here (c .loop-i .reader)) _ (c .line-line .result) (c .step-line .result) (Ok _) (c .line-line .ensures) (c .in-Continue-steps .ensures tt) (c .step-line .ensures)))
 
 pub returns : need.returns
 returns g c =

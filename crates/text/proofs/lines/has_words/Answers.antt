@@ -15,8 +15,8 @@ loop-byte-again c =
     let s = c .args .line .now in
     let i = c .loop-byte .byte-index in
     elim (c .if-byte-ne-SPACE .came) [
-      then-byte-ne-SPACE w ↦ (omega (arith, w .words-is), at-state (w .words-is) (w .begun-is) (in-word s i (omega arith) (c .loop-byte .inv .1) (w .if-byte-ne-SPACE .taken)))
-    | else-byte-ne-SPACE·then-begun w ↦ (omega (arith, w .words-is), at-state (w .words-is) (w .begun-is) (past-word s i (omega arith) (c .loop-byte .inv .1) (w .if-byte-ne-SPACE .left) (w .if-begun .taken)))
+      | then-byte-ne-SPACE w ↦ (omega (arith, w .words-is), at-state (w .words-is) (w .begun-is) (in-word s i (omega arith) (c .loop-byte .inv .1) (w .if-byte-ne-SPACE .taken)))
+      | else-byte-ne-SPACE·then-begun w ↦ (omega (arith, w .words-is), at-state (w .words-is) (w .begun-is) (past-word s i (omega arith) (c .loop-byte .inv .1) (w .if-byte-ne-SPACE .left) (w .if-begun .taken)))
     ]
 
 pub returns-then-begun-2 : need.returns-then-begun-2

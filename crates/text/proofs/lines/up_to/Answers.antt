@@ -8,7 +8,7 @@ use Rattle.text.proofs.lines.up_to.Needs.{then-byte-one·by·then-byte-one, th
 pub returns-then-byte-one : need.returns-then-byte-one
 returns-then-byte-one c =
     let h = upTo-here (c .args .one) (c .args .other) (c .args .bytes .now) (c .loop-i .i) (omega arith)
-      (elim (c .then-byte-one .came) [ then-byte-one·by·then-byte-one w ↦ inl (w .if-byte-one .taken) | then-byte-one·by·else-byte-one·then-byte-other w ↦ inr (w .if-byte-other .taken) ]) in
+    (elim (c .then-byte-one .came) [ then-byte-one·by·then-byte-one w ↦ inl (w .if-byte-one .taken) | then-byte-one·by·else-byte-one·then-byte-other w ↦ inr (w .if-byte-other .taken) ]) in
     record { value = omega arith; bound = omega arith }
 
 pub loop-i-again : need.loop-i-again

@@ -14,8 +14,8 @@ loop-byte-again c =
     let s = c .args .part .now in
     let i = c .loop-byte .byte-index in
     elim (c .if-value-le65535 .came) [
-      then-value-le65535 w ↦ (omega (arith, w .value-is), ap (λ v. sized (worthFrom v (drop (i + 1) s))) (w .value-is ∙ ap (λ d. n * 10 + d) (w .from .ensures ∙ w .saturating-sub .ensures)) ∙ sym (worth-on n s i (omega arith)) ∙ c .loop-byte .inv .1)
-    | else-value-le65535 w ↦ (omega (arith, w .value-is), ap (λ v. sized (worthFrom v (drop (i + 1) s))) (w .value-is) ∙ sym (worth-over n s i (omega arith) (w .if-value-le65535 .left)) ∙ c .loop-byte .inv .1)
+      | then-value-le65535 w ↦ (omega (arith, w .value-is), ap (λ v. sized (worthFrom v (drop (i + 1) s))) (w .value-is ∙ ap (λ d. n * 10 + d) (w .from .ensures ∙ w .saturating-sub .ensures)) ∙ sym (worth-on n s i (omega arith)) ∙ c .loop-byte .inv .1)
+      | else-value-le65535 w ↦ (omega (arith, w .value-is), ap (λ v. sized (worthFrom v (drop (i + 1) s))) (w .value-is) ∙ sym (worth-over n s i (omega arith) (w .if-value-le65535 .left)) ∙ c .loop-byte .inv .1)
     ]
 
 pub returns-then-value-gt65535 : need.returns-then-value-gt65535

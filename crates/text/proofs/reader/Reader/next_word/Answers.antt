@@ -16,8 +16,8 @@ returns c =
     record {
       word = c .sort-word .ensures ∙ ap (λ w. sorted w p) (cut 32 10 _ _ _ (take-rest s p) end);
       here = elim (c .if-end-rest .came) [
-        then-end-rest w ↦ ap here (w .self-is) ∙ last-word s _ p k _ (take-rest s p) end (w .if-end-rest .taken)
-      | else-end-rest·then-rest-end-eq-LF w ↦ ap here (w .self-is) ∙ past-line s _ p k _ (take-rest s p) end (w .if-rest-end-eq-LF .taken)
-      | else-end-rest·else-rest-end-eq-LF w ↦ ap here (w .self-is) ∙ past-space s _ p k _ (take-rest s p) end (w .if-rest-end-eq-LF .left)
-      ]
+        | then-end-rest w ↦ ap here (w .self-is) ∙ last-word s _ p k _ (take-rest s p) end (w .if-end-rest .taken)
+        | else-end-rest·then-rest-end-eq-LF w ↦ ap here (w .self-is) ∙ past-line s _ p k _ (take-rest s p) end (w .if-rest-end-eq-LF .taken)
+        | else-end-rest·else-rest-end-eq-LF w ↦ ap here (w .self-is) ∙ past-space s _ p k _ (take-rest s p) end (w .if-rest-end-eq-LF .left)
+      ];
     }
