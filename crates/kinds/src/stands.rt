@@ -31,7 +31,7 @@ pub impl Kind for Stands as StandsKind {
     }
 
     fn unnamed() -> u16 {
-        0
+        EMPTY
     }
 
     fn with_word(value: u16, place: usize, word: u16) -> Option<u16> {
@@ -80,6 +80,9 @@ pub impl Kind for Stands as StandsKind {
     }
 }
 
+// a stand without a tram
+const EMPTY: u16 = 0;
+
 // the highest number of a tram
 const MOST: u16 = 9999;
 
@@ -87,8 +90,8 @@ fn take(number: u16, value: u16) -> Made<u16>
     ensures { λ r. ⌜ made r ≡ Some (takeTram number value) ⌝ }
 {
     if value == number {
-        Made::Value(0)
-    } else if value == 0 {
+        Made::Value(EMPTY)
+    } else if value == EMPTY {
         Made::Cause(Cause::NoTram)
     } else {
         Made::Cause(Cause::OtherTram)
@@ -98,7 +101,7 @@ fn take(number: u16, value: u16) -> Made<u16>
 fn put(number: u16, value: u16) -> Made<u16>
     ensures { λ r. ⌜ made r ≡ Some (putTram number value) ⌝ }
 {
-    if value == 0 {
+    if value == EMPTY {
         Made::Value(number)
     } else {
         Made::Cause(Cause::StandTaken)

@@ -43,8 +43,8 @@ workedYard = record {
   values = 31 ∷ 32 ∷ 0 ∷ 0 ∷ 0 ∷ 0 ∷ 0 ∷ 0 ∷ [];
   moves = move 11 0 2 ∷ move 12 2 2 ∷ move 13 4 3 ∷ move 14 7 2 ∷ move 15 9 1 ∷ [];
   steps = step 84 0 31 ∷ step 80 4 31 ∷ step 84 1 32 ∷ step 80 5 32 ∷ step 76 7 0 ∷ step 84 4 31 ∷ step 80 6 31 ∷ step 84 5 32 ∷ step 80 0 32 ∷ step 76 7 0 ∷ [];
-  choices = 0 ∷ 1 ∷ []
-  }
+  choices = 0 ∷ 1 ∷ [];
+}
 
 pub record Sheet-as-worked : Type 0 where
   pub reads : sheetOf standRules standRows workedSheet ≡ Ok workedYard

@@ -6,4 +6,5 @@ pub enum YardKind {
     Stands,
     Feeders,
 }
+
 pub mod choosing;

@@ -2,7 +2,7 @@
 
 pub mod counts;
 pub mod faults;
-pub mod lines;
+mod lines;
 pub mod read;
 mod sections;
 mod sheet;

@@ -1,7 +1,7 @@
 //! What can be wrong with a word and with a line. A word's fault is carried whole inside its line's.
 
 ghost use mathlib.Core.Path.{_≡_};
-ghost use Rattle.text.specs.Faults.{lineAt, onErr};
+ghost use Rattle.text.specs.Faults.{lineAt, onErr, wordAt};
 ghost use Rattle.text.specs.declared.faults.LineFault.the-variants as lineFault;
 
 #[derive(Clone, Copy, Debug, PartialEq)]
@@ -45,6 +45,16 @@ pub impl From<AtWord> for LineFault as LineFaultFromWord {
 
     fn from(e: AtWord) -> LineFault {
         LineFault::Word(e)
+    }
+}
+
+/// The same result, whose fault tells the word.
+pub fn at_word<T>(r: Result<T, WordFault>, word: usize) -> Result<T, AtWord>
+    ensures { λ s. ⌜ s ≡ onErr (wordAt word) r ⌝ }
+{
+    match r {
+        Ok(x) => Ok(x),
+        Err(fault) => Err(AtWord { word, fault }),
     }
 }
 

@@ -6,13 +6,13 @@ ghost use lib.ListN.{length};
 ghost use Rattle.text.specs.Lines.{upTo, hasWords};
 
 /// The byte that ends a line.
-pub const LF: u8 = 10;
+pub(crate) const LF: u8 = 10;
 
 /// The byte between two words.
-pub const SPACE: u8 = 32;
+pub(crate) const SPACE: u8 = 32;
 
 /// How many bytes stand before the first that is one or the other; all of them where there is none.
-pub fn up_to(bytes: &[u8], one: u8, other: u8) -> usize
+pub(crate) fn up_to(bytes: &[u8], one: u8, other: u8) -> usize
     ensures value { λ r. ⌜ r ≡ upTo one other (now (bytes .entry)) ⌝ }
     ensures bound { λ r. ⌜ r ≤ length (now (bytes .entry)) ⌝ }
 {
@@ -25,7 +25,7 @@ pub fn up_to(bytes: &[u8], one: u8, other: u8) -> usize
 }
 
 /// Whether the line has just `count` words, with one space between two of them and none elsewhere.
-pub fn has_words(line: &[u8], count: usize) -> bool
+pub(crate) fn has_words(line: &[u8], count: usize) -> bool
     ensures { λ r. ⌜ r ≡ hasWords count (now (line .entry)) ⌝ }
 {
     let mut words: usize = 1;

@@ -5,7 +5,7 @@ ghost use Rattle.text.specs.Numerals.{numeral, worth};
 use crate::faults::WordFault;
 
 /// Whether the bytes are a numeral.
-pub fn is_numeral(part: &[u8]) -> bool
+pub(crate) fn is_numeral(part: &[u8]) -> bool
     ensures { λ r. ⌜ r ≡ numeral (now (part .entry)) ⌝ }
 {
     if part.len() == 0 {
@@ -23,7 +23,7 @@ pub fn is_numeral(part: &[u8]) -> bool
 }
 
 /// What a numeral is worth, if that is at most 65,535.
-pub fn value_of(part: &[u8]) -> Result<u16, WordFault>
+pub(crate) fn value_of(part: &[u8]) -> Result<u16, WordFault>
     ensures { λ r. ⌜ r ≡ worth (now (part .entry)) ⌝ }
 {
     let mut value: u32 = 0;

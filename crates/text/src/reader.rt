@@ -4,6 +4,7 @@ ghost use Prim.Native.Nat.{_+_, _≤_};
 ghost use lib.ListN.{length};
 
 pub mod giving;
+pub mod standing;
 
 #[derive(Clone, Copy)]
 pub struct Reader<'a> {

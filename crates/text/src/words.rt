@@ -14,7 +14,7 @@ pub enum Word<'a> {
 }
 
 /// The word that the part of the sheet at `place` is.
-pub fn sort_word<'a>(part: &'a [u8], place: usize) -> Word<'a>
+pub(crate) fn sort_word<'a>(part: &'a [u8], place: usize) -> Word<'a>
     ensures { λ r. ⌜ seen r ≡ sorted (now (part .entry)) place ⌝ }
 {
     if is_numeral(part) {

@@ -26,7 +26,9 @@ fn main(rt: LibcRuntime) -> Result<(), AnyError> {
 fn run(rt: &LibcRuntime) -> Result<(), AnyError> {
     let mut sheet = Vec::new(rt.alloc());
     // one byte more than a sheet may have, so that a longer one is seen to be too long
-    rt.stdin().take(MOST_BYTES as u64 + 1).read_to_end(&mut sheet)?;
+    rt.stdin()
+        .take(MOST_BYTES as u64 + 1)
+        .read_to_end(&mut sheet)?;
     match kind_of(&sheet) {
         YardKind::Stands => tell::<Stands>(rt, "stands", &sheet),
         YardKind::Feeders => tell::<Feeders>(rt, "feeders", &sheet),
@@ -39,8 +41,16 @@ fn tell<K: Kind>(rt: &LibcRuntime, kind: &str, sheet: &[u8]) -> Result<(), AnyEr
     for _ in 0..CELLS {
         values.push(K::unnamed())?;
     }
-    let mut moves = vec![in rt.alloc(); Move { label: 0, first: 0, count: 0 }; MOVES]?;
-    let mut steps = vec![in rt.alloc(); Step { letter: ' ', cell: 0, number: 0 }; STEPS]?;
+    let mut moves = vec![in rt.alloc(); Move {
+        label: 0,
+        first: 0,
+        count: 0
+    }; MOVES]?;
+    let mut steps = vec![in rt.alloc(); Step {
+        letter: ' ',
+        cell: 0,
+        number: 0
+    }; STEPS]?;
     let mut choices = vec![in rt.alloc(); 0; CHOICES]?;
     match read::<K>(sheet, &mut values, &mut moves, &mut steps, &mut choices) {
         Ok(counts) => tell_sheet(rt, kind, counts, &moves, &steps, &choices),
@@ -52,13 +62,23 @@ fn tell<K: Kind>(rt: &LibcRuntime, kind: &str, sheet: &[u8]) -> Result<(), AnyEr
     }
 }
 
-fn tell_sheet(rt: &LibcRuntime, kind: &str, counts: Counts, moves: &[Move], steps: &[Step], choices: &[u16]) -> Result<(), AnyError> {
+fn tell_sheet(
+    rt: &LibcRuntime,
+    kind: &str,
+    counts: Counts,
+    moves: &[Move],
+    steps: &[Step],
+    choices: &[u16],
+) -> Result<(), AnyError> {
     println!(rt, "{kind}, {} cells, share {}", counts.cells, counts.share)?;
     println!(rt, "{} rows", counts.rows)?;
     println!(rt, "{} moves, {} steps", counts.moves, counts.steps)?;
     for found in moves.iter().take(counts.moves as usize) {
         print!(rt, "  {}:", found.label)?;
-        for step in steps.iter().skip(found.first as usize).take(found.count as usize) {
+        for step in steps
+            .iter()
+            .skip(found.first as usize)
+            .take(found.count as usize) {
             print!(rt, " {} {} {}", step.letter, step.cell, step.number)?;
         }
         println!(rt, "")?;

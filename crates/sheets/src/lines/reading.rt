@@ -17,7 +17,7 @@ use yard::batch::Step;
 use yard::kind::Kind;
 
 /// The first line: the kind's letter, the cells and the share.
-pub fn kind_line(reader: &mut Reader, letter: char) -> Result<Size, LineFault>
+pub(crate) fn kind_line(reader: &mut Reader, letter: char) -> Result<Size, LineFault>
     ensures answer { λ r. ⌜ answered r (here (now (reader .exit))) ≡ kindLine letter (here (now (reader .entry))) ⌝ }
     ensures bound { λ r. ⌜ made r (λ size. size .cells ≤ 1024) ⌝ }
 {
@@ -29,7 +29,7 @@ pub fn kind_line(reader: &mut Reader, letter: char) -> Result<Size, LineFault>
 }
 
 /// The first line of a section: its letter, and how many lines come.
-pub fn count_line(reader: &mut Reader, letter: char, most: u16) -> Result<u16, LineFault>
+pub(crate) fn count_line(reader: &mut Reader, letter: char, most: u16) -> Result<u16, LineFault>
     ensures answer { λ r. ⌜ answered r (here (now (reader .exit))) ≡ countLine letter most (here (now (reader .entry))) ⌝ }
     ensures bound { λ r. ⌜ made r (λ n. n ≤ most) ⌝ }
 {
@@ -40,7 +40,7 @@ pub fn count_line(reader: &mut Reader, letter: char, most: u16) -> Result<u16, L
 }
 
 /// The first line of the occupancy, which has at least one row.
-pub fn occupancy_line(reader: &mut Reader) -> Result<u16, LineFault>
+pub(crate) fn occupancy_line(reader: &mut Reader) -> Result<u16, LineFault>
     ensures { λ r. ⌜ answered r (here (now (reader .exit))) ≡ occupancyLine (here (now (reader .entry))) ⌝ }
 {
     let count = count_line(reader, 'O', 1024)?;
@@ -72,7 +72,7 @@ fn row_value<K: Kind>(reader: &mut Reader) -> Result<K::Value, LineFault>
 }
 
 /// A row: its cell, which is at least `low`, and its value.
-pub fn row_line<K: Kind>(
+pub(crate) fn row_line<K: Kind>(
     reader: &mut Reader,
     cells: u16,
     low: u16,
@@ -90,7 +90,7 @@ pub fn row_line<K: Kind>(
 }
 
 /// A move's first line; `first` steps stand before it.
-pub fn move_line(reader: &mut Reader, first: u16) -> Result<Move, LineFault>
+pub(crate) fn move_line(reader: &mut Reader, first: u16) -> Result<Move, LineFault>
     ensures answer { λ r. ⌜ answered r (here (now (reader .exit))) ≡ moveLine first (here (now (reader .entry))) ⌝ }
     ensures bound { λ r. ⌜ made r (λ m. (m .first ≡ first) × (first + m .count ≤ 1024)) ⌝ }
 {
@@ -107,7 +107,7 @@ pub fn move_line(reader: &mut Reader, first: u16) -> Result<Move, LineFault>
     })
 }
 
-pub fn step_line<K: Kind>(reader: &mut Reader, cells: u16) -> Result<Step, LineFault>
+pub(crate) fn step_line<K: Kind>(reader: &mut Reader, cells: u16) -> Result<Step, LineFault>
     ensures { λ r. ⌜ answered r (here (now (reader .exit))) ≡ stepLine (K·Kind .rules) cells (here (now (reader .entry))) ⌝ }
 {
     reader.line_there(3)?;
@@ -134,7 +134,7 @@ pub fn step_line<K: Kind>(reader: &mut Reader, cells: u16) -> Result<Step, LineF
 }
 
 /// A choice: the place of one of the moves.
-pub fn choice_line(reader: &mut Reader, moves: u16) -> Result<u16, LineFault>
+pub(crate) fn choice_line(reader: &mut Reader, moves: u16) -> Result<u16, LineFault>
     ensures { λ r. ⌜ answered r (here (now (reader .exit))) ≡ choiceLine moves (here (now (reader .entry))) ⌝ }
 {
     reader.line_there(1)?;

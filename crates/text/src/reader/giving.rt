@@ -2,12 +2,13 @@
 
 ghost use mathlib.Core.Path.{_≡_};
 ghost use Rattle.text.specs.Lines.{lineThere, wordOf};
-ghost use Rattle.text.specs.Reading.{here, start, pastWord, numberAt, numberWithin, numberBelow, letterAt, letterIs, nothingLeft};
+ghost use Rattle.text.specs.Reading.{here, pastWord, numberAt, numberWithin, numberBelow, letterAt, letterIs};
 ghost use Rattle.text.specs.Words.{seen, sorted};
 use super::Reader;
 use crate::faults::AtWord;
 use crate::faults::LineFault;
 use crate::faults::WordFault;
+use crate::faults::at_word;
 use crate::lines::LF;
 use crate::lines::SPACE;
 use crate::lines::has_words;
@@ -16,29 +17,6 @@ use crate::words::Word;
 use crate::words::sort_word;
 
 impl<'a> Reader<'a> {
-    pub fn new(sheet: &'a [u8]) -> Reader<'a>
-        ensures { λ r. ⌜ here r ≡ start (now (sheet .entry)) ⌝ }
-    {
-        Reader {
-            sheet,
-            place: 0,
-            line: 1,
-        }
-    }
-
-    /// The number of the line, from 1.
-    pub fn line(&self) -> usize
-        ensures { λ r. ⌜ r ≡ here (now (self .entry)) .line ⌝ }
-    {
-        self.line
-    }
-
-    pub fn at_end(&self) -> bool
-        ensures { λ r. ⌜ r ≡ nothingLeft (here (now (self .entry))) ⌝ }
-    {
-        self.place == self.sheet.len()
-    }
-
     /// Whether the line that begins here is there, with its LF, and has `count` words.
     pub fn line_there(&self, count: usize) -> Result<(), LineFault>
         ensures { λ r. ⌜ r ≡ lineThere count (here (now (self .entry)) .bytes) ⌝ }
@@ -58,6 +36,7 @@ impl<'a> Reader<'a> {
     /// The word that begins here, and on to the next.
     pub fn next_word(&mut self) -> Word<'a>
         ensures word { λ r. ⌜ seen r ≡ sorted (wordOf (here (now (self .entry)) .bytes)) (now (self .entry) .place) ⌝ }
+        ensures sheet { λ _. ⌜ now (self .exit) .sheet ≡ now (self .entry) .sheet ⌝ }
         ensures here { λ _. ⌜ here (now (self .exit)) ≡ pastWord (here (now (self .entry))) ⌝ }
     {
         let sheet = self.sheet;
@@ -78,17 +57,16 @@ impl<'a> Reader<'a> {
     /// The next word, which is word `word` of its line, as a number.
     pub fn number(&mut self, word: usize) -> Result<u16, AtWord>
         ensures answer { λ r. ⌜ r ≡ numberAt word (here (now (self .entry))) ⌝ }
+        ensures sheet { λ _. ⌜ now (self .exit) .sheet ≡ now (self .entry) .sheet ⌝ }
         ensures here { λ _. ⌜ here (now (self .exit)) ≡ pastWord (here (now (self .entry))) ⌝ }
     {
-        match self.next_word().number() {
-            Ok(number) => Ok(number),
-            Err(fault) => Err(AtWord { word, fault }),
-        }
+        at_word(self.next_word().number(), word)
     }
 
     /// A number from `least` to `most`.
     pub fn number_within(&mut self, word: usize, least: u16, most: u16) -> Result<u16, AtWord>
         ensures answer { λ r. ⌜ r ≡ numberWithin word least most (here (now (self .entry))) ⌝ }
+        ensures sheet { λ _. ⌜ now (self .exit) .sheet ≡ now (self .entry) .sheet ⌝ }
         ensures here { λ _. ⌜ here (now (self .exit)) ≡ pastWord (here (now (self .entry))) ⌝ }
     {
         let number = self.number(word)?;
@@ -104,6 +82,7 @@ impl<'a> Reader<'a> {
     /// A number below `end`.
     pub fn number_below(&mut self, word: usize, end: u16) -> Result<u16, AtWord>
         ensures answer { λ r. ⌜ r ≡ numberBelow word end (here (now (self .entry))) ⌝ }
+        ensures sheet { λ _. ⌜ now (self .exit) .sheet ≡ now (self .entry) .sheet ⌝ }
         ensures here { λ _. ⌜ here (now (self .exit)) ≡ pastWord (here (now (self .entry))) ⌝ }
     {
         let number = self.number(word)?;
@@ -119,17 +98,16 @@ impl<'a> Reader<'a> {
     /// The next word as a letter.
     pub fn letter(&mut self, word: usize) -> Result<char, AtWord>
         ensures answer { λ r. ⌜ r ≡ letterAt word (here (now (self .entry))) ⌝ }
+        ensures sheet { λ _. ⌜ now (self .exit) .sheet ≡ now (self .entry) .sheet ⌝ }
         ensures here { λ _. ⌜ here (now (self .exit)) ≡ pastWord (here (now (self .entry))) ⌝ }
     {
-        match self.next_word().letter() {
-            Ok(letter) => Ok(letter),
-            Err(fault) => Err(AtWord { word, fault }),
-        }
+        at_word(self.next_word().letter(), word)
     }
 
     /// The next word has to be this letter.
     pub fn letter_is(&mut self, word: usize, letter: char) -> Result<char, AtWord>
         ensures answer { λ r. ⌜ r ≡ letterIs word letter (here (now (self .entry))) ⌝ }
+        ensures sheet { λ _. ⌜ now (self .exit) .sheet ≡ now (self .entry) .sheet ⌝ }
         ensures here { λ _. ⌜ here (now (self .exit)) ≡ pastWord (here (now (self .entry))) ⌝ }
     {
         let found = self.letter(word)?;

@@ -15,6 +15,7 @@ returns c =
     let end = c .up-to-end .ensures .value in
     record {
       word = c .sort-word .ensures ∙ ap (λ w. sorted w p) (cut 32 10 _ _ _ (take-rest s p) end);
+      sheet = elim (c .if-end-rest .came) [ then-end-rest w ↦ ap (λ r. r .sheet) (w .self-is) | else-end-rest·then-rest-end-eq-LF w ↦ ap (λ r. r .sheet) (w .self-is) | else-end-rest·else-rest-end-eq-LF w ↦ ap (λ r. r .sheet) (w .self-is) ];
       here = elim (c .if-end-rest .came) [
         | then-end-rest w ↦ ap here (w .self-is) ∙ last-word s _ p k _ (take-rest s p) end (w .if-end-rest .taken)
         | else-end-rest·then-rest-end-eq-LF w ↦ ap here (w .self-is) ∙ past-line s _ p k _ (take-rest s p) end (w .if-rest-end-eq-LF .taken)
