@@ -4,6 +4,8 @@ use mathlib.Core.List.{List, [], _∷_}
 use Prim.Native.Nat.{ℕ, _+_}
 use lib.Dec.{eqb, ltb}
 use lib.ListN.{length, take, drop}
+use Rattle.std.specs.declared.option.Option.{Option}
+use Rattle.std.specs.declared.option.Option.the-variants.{Some, None}
 use Rattle.std.specs.declared.result.Result.{Result}
 use Rattle.std.specs.declared.result.Result.the-variants.{Ok, Err}
 use Rattle.text.specs.declared.faults.LineFault.{LineFault}
@@ -14,9 +16,9 @@ abbrev pub upTo : ℕ → ℕ → List ℕ → ℕ
 upTo one other [] = 0
 upTo one other (b ∷ bs) = cond (eqb b one || eqb b other) 0 (1 + upTo one other bs)
 
--- the line that some bytes begin with, without its LF
-abbrev pub lineOf : List ℕ → List ℕ
-lineOf bs = take (upTo 10 10 bs) bs
+-- the line that some bytes begin with, without its LF, if the LF is there
+abbrev pub lineOf : List ℕ → Option (List ℕ)
+lineOf bs = cond (ltb (upTo 10 10 bs) (length bs)) (Some (take (upTo 10 10 bs) bs)) None
 
 -- the word that some bytes begin with
 abbrev pub wordOf : List ℕ → List ℕ
@@ -43,6 +45,10 @@ allFilled (w ∷ ws) = filled w && allFilled ws
 abbrev pub hasWords : ℕ → List ℕ → Bool
 hasWords n line = allFilled (parts line) && eqb (length (parts line)) n
 
+abbrev pub wellFormed : ℕ → Option (List ℕ) → Result (Unit {0}) LineFault
+wellFormed n None = Err Lacking
+wellFormed n (Some line) = cond (hasWords n line) (Ok tt) (Err Shape)
+
 -- the line that some bytes begin with is there, with its LF, and has n words
 abbrev pub lineThere : ℕ → List ℕ → Result (Unit {0}) LineFault
-lineThere n bs = cond (ltb (upTo 10 10 bs) (length bs)) (cond (hasWords n (lineOf bs)) (Ok tt) (Err Shape)) (Err Lacking)
+lineThere n bs = wellFormed n (lineOf bs)

@@ -1,5 +1,7 @@
 //! The program: it reads a sheet from standard input and says what it read, or where the slip is.
 
+use desk::lists::Desk;
+use desk::lists::laying::lay_out;
 use kinds::feeders::Feeders;
 use kinds::feeders::FeedersKind;
 use kinds::stands::Stands;
@@ -7,16 +9,10 @@ use kinds::stands::StandsKind;
 use planner::kind::YardKind;
 use planner::kind::choosing::kind_of;
 use sheets::counts::Counts;
-use sheets::read::CELLS;
-use sheets::read::CHOICES;
 use sheets::read::MOST_BYTES;
-use sheets::read::MOVES;
-use sheets::read::STEPS;
 use sheets::read::read;
 use std::error::AnyError;
 use std::io::Read;
-use yard::batch::Move;
-use yard::batch::Step;
 use yard::kind::Kind;
 
 fn main(rt: LibcRuntime) -> Result<(), AnyError> {
@@ -35,47 +31,35 @@ fn run(rt: &LibcRuntime) -> Result<(), AnyError> {
     }
 }
 
-// Reads the sheet, and says what it holds or where it is wrong.
+// Says what the sheet holds, or where it is wrong.
 fn tell<K: Kind>(rt: &LibcRuntime, kind: &str, sheet: &[u8]) -> Result<(), AnyError> {
-    let mut values: Vec<K::Value> = Vec::new(rt.alloc());
-    for _ in 0..CELLS {
-        values.push(K::unnamed())?;
-    }
-    let mut moves = vec![in rt.alloc(); Move {
-        label: 0,
-        first: 0,
-        count: 0
-    }; MOVES]?;
-    let mut steps = vec![in rt.alloc(); Step {
-        letter: ' ',
-        cell: 0,
-        number: 0
-    }; STEPS]?;
-    let mut choices = vec![in rt.alloc(); 0; CHOICES]?;
-    match read::<K>(sheet, &mut values, &mut moves, &mut steps, &mut choices) {
-        Ok(counts) => tell_sheet(rt, kind, counts, &moves, &steps, &choices),
+    let mut desk = lay_out::<K>(rt.alloc())?;
+    match read::<K>(
+        sheet,
+        &mut desk.values,
+        &mut desk.moves,
+        &mut desk.steps,
+        &mut desk.choices,
+    ) {
+        Ok(counts) => {
+            println!(rt, "{kind}, {} cells, share {}", counts.cells, counts.share)?;
+            println!(rt, "{} rows", counts.rows)?;
+            tell_moves(rt, counts, &desk)?;
+            tell_choices(rt, counts, &desk)?;
+        }
         Err(fault) => {
             let slip = fault.slip();
             println!(rt, "N {} {} {}", slip.number, slip.line, slip.word)?;
-            Ok(())
         }
     }
+    Ok(())
 }
 
-fn tell_sheet(
-    rt: &LibcRuntime,
-    kind: &str,
-    counts: Counts,
-    moves: &[Move],
-    steps: &[Step],
-    choices: &[u16],
-) -> Result<(), AnyError> {
-    println!(rt, "{kind}, {} cells, share {}", counts.cells, counts.share)?;
-    println!(rt, "{} rows", counts.rows)?;
+fn tell_moves<V: Drop>(rt: &LibcRuntime, counts: Counts, desk: &Desk<V>) -> Result<(), AnyError> {
     println!(rt, "{} moves, {} steps", counts.moves, counts.steps)?;
-    for found in moves.iter().take(counts.moves as usize) {
+    for found in desk.moves.iter().take(counts.moves as usize) {
         print!(rt, "  {}:", found.label)?;
-        for step in steps
+        for step in desk.steps
             .iter()
             .skip(found.first as usize)
             .take(found.count as usize) {
@@ -83,8 +67,12 @@ fn tell_sheet(
         }
         println!(rt, "")?;
     }
+    Ok(())
+}
+
+fn tell_choices<V: Drop>(rt: &LibcRuntime, counts: Counts, desk: &Desk<V>) -> Result<(), AnyError> {
     print!(rt, "{} choices:", counts.choices)?;
-    for choice in choices.iter().take(counts.choices as usize) {
+    for choice in desk.choices.iter().take(counts.choices as usize) {
         print!(rt, " {choice}")?;
     }
     println!(rt, "")?;

@@ -1,7 +1,9 @@
 //! What the reader gives: whether its line is as it should be, and the words of the line, one after another.
 
 ghost use mathlib.Core.Path.{_≡_};
-ghost use Rattle.text.specs.Lines.{lineThere, wordOf};
+ghost use Prim.Native.Nat.{_≤_};
+ghost use lib.ListN.{length as size};
+ghost use Rattle.text.specs.Lines.{lineThere, upTo, wordOf};
 ghost use Rattle.text.specs.Reading.{here, pastWord, numberAt, numberWithin, numberBelow, letterAt, letterIs};
 ghost use Rattle.text.specs.Words.{seen, sorted};
 use super::Reader;
@@ -10,9 +12,9 @@ use crate::faults::LineFault;
 use crate::faults::WordFault;
 use crate::faults::at_word;
 use crate::lines::LF;
-use crate::lines::SPACE;
+use crate::lines::first_line;
+use crate::lines::first_word;
 use crate::lines::has_words;
-use crate::lines::up_to;
 use crate::words::Word;
 use crate::words::sort_word;
 
@@ -21,13 +23,10 @@ impl<'a> Reader<'a> {
     pub fn line_there(&self, count: usize) -> Result<(), LineFault>
         ensures { λ r. ⌜ r ≡ lineThere count (here (now (self .entry)) .bytes) ⌝ }
     {
-        let sheet = self.sheet;
-        let rest = &sheet[self.place..];
-        let end = up_to(rest, LF, LF);
-        if end == rest.len() {
+        let Some(line) = first_line(self.rest()) else {
             return Err(LineFault::Lacking);
-        }
-        if !has_words(&rest[0..end], count) {
+        };
+        if !has_words(line, count) {
             return Err(LineFault::Shape);
         }
         Ok(())
@@ -39,19 +38,28 @@ impl<'a> Reader<'a> {
         ensures sheet { λ _. ⌜ now (self .exit) .sheet ≡ now (self .entry) .sheet ⌝ }
         ensures here { λ _. ⌜ here (now (self .exit)) ≡ pastWord (here (now (self .entry))) ⌝ }
     {
-        let sheet = self.sheet;
         let place = self.place;
-        let rest = &sheet[place..];
-        let end = up_to(rest, SPACE, LF);
-        if end == rest.len() {
-            self.place = sheet.len();
+        let part = first_word(self.rest());
+        self.pass(part.len());
+        sort_word(part, place)
+    }
+
+    // Past the next word, which has `length` bytes, and the space or LF after it.
+    fn pass(&mut self, length: usize)
+        requires word { ⌜ length ≡ upTo 32 10 (here (now self) .bytes) ⌝ }
+        requires within { ⌜ length ≤ size (here (now self) .bytes) ⌝ }
+        ensures sheet { λ _. ⌜ now (self .exit) .sheet ≡ now (self .entry) .sheet ⌝ }
+        ensures here { λ _. ⌜ here (now (self .exit)) ≡ pastWord (here (now (self .entry))) ⌝ }
+    {
+        let rest = self.rest();
+        if length == rest.len() {
+            self.place += length;
         } else {
-            self.place = place + end + 1;
-            if rest[end] == LF {
+            self.place += length + 1;
+            if rest[length] == LF {
                 self.line += 1;
             }
         }
-        sort_word(&rest[0..end], place)
     }
 
     /// The next word, which is word `word` of its line, as a number.

@@ -1,6 +1,8 @@
 //! Where the reader stands.
 
 ghost use mathlib.Core.Path.{_≡_};
+ghost use Prim.Native.Nat.{_+_};
+ghost use lib.ListN.{length};
 ghost use Rattle.text.specs.Reading.{here, start, nothingLeft};
 use super::Reader;
 
@@ -25,6 +27,15 @@ impl<'a> Reader<'a> {
     pub fn at_end(&self) -> bool
         ensures { λ r. ⌜ r ≡ nothingLeft (here (now (self .entry))) ⌝ }
     {
-        self.place == self.sheet.len()
+        self.rest().len() == 0
+    }
+
+    // The bytes from here on.
+    pub(crate) fn rest(&self) -> &'a [u8]
+        ensures bytes { λ r. ⌜ now r ≡ here (now (self .entry)) .bytes ⌝ }
+        ensures long { λ r. ⌜ now (self .entry) .place + length (now r) ≡ length (now (now (self .entry) .sheet)) ⌝ }
+    {
+        let sheet = self.sheet;
+        &sheet[self.place..]
     }
 }

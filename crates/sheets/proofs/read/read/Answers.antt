@@ -10,13 +10,13 @@ use Rattle.sheets.proofs.read.read.Needs as need
 pub returns : need.returns
 returns g c =
     let l = lists (c .args .values .now) (c .args .moves .now) (c .args .steps .now) (c .args .choices .now) in
-    let big : Roomy l = record { values = c .if-values-lt-CELLS .left; moves = c .if-moves-lt-MOVES .left; steps = c .if-steps-lt-STEPS .left; choices = c .if-choices-lt-CHOICES .left } in
+    let big : Roomy l = record { values = omega arith; moves = omega arith; steps = omega arith; choices = omega arith } in
     let top = c .in-Continue-size .ensures tt in
     let all = c .in-Continue-counts .ensures tt in
     let kept = c .read-body .kept in
     whole-read (g .K·Kind .rules) (g .K·Kind .rows) (c .args .sheet .now) l
     (c .in-Continue-counts .counts) (c .in-Continue-size .size) (c .in-Continue-size .rows) (here (c .read-head .last .reader)) (c .read-body .last .moves) (c .read-body .last .steps) (c .read-body .last .choices)
-    big (c .if-sheet-gt-MOST-BYTES .left)
+    big (omega arith)
     (top .answer ∙ ap (head (g .K·Kind .rows .letter)) (c .new-reader .ensures))
     (all .answer)
     (all .bound .0) (omega (arith, all .bound .1, kept .moves)) (omega (arith, all .bound .2, kept .steps)) (omega (arith, all .bound .3, kept .choices))
