@@ -23,7 +23,7 @@ use Rattle.sheets.specs.declared.faults.SheetFault.the-variants.{ListTooShort,
 use Rattle.sheets.specs.declared.lines.Size.{Size}
 use Rattle.sheets.specs.Lines.{Read, read}
 use Rattle.sheets.specs.Sections.{rowsRead, valuesRead}
-use Rattle.sheets.specs.Sheet.{Sheet, head, headBy, body, sections, sheetOf, sheetBy, Lists, lists, roomy, laid, filled, countsOf, answering, given, readInto}
+use Rattle.sheets.specs.Sheet.{Sheet, head, headBy, body, sections, sheetOf, sheetBy, Lists, lists, roomy, laid, filled, countsOf, answering, handedOut, readInto}
 use Rattle.sheets.proofs.Rising.{values-long}
 
 first-ok : {A B E : Type 0} (r : Result A E) (f : A → Result B E) (b : B) → andThen r f ≡ Ok b → isOk r ≡ true
@@ -41,10 +41,10 @@ room : {V : Type 0} (l : Lists V) → Roomy l → roomy l ≡ true
 room l h = λ i. le-leb 1024 (length (l .values)) (h .values) i && le-leb 256 (length (l .moves)) (h .moves) i && le-leb 1024 (length (l .steps)) (h .steps) i && le-leb 64 (length (l .choices)) (h .choices) i
 
 module _ {V : Type 0} (R : Rules V) (rows : Rows V) (bs : List ℕ) (l : Lists V) where
-  taken-in : Roomy l → length bs ≤ 32768 → readInto R rows bs l ≡ given (onErr Line (sections R rows (start bs))) l
+  taken-in : Roomy l → length bs ≤ 32768 → readInto R rows bs l ≡ handedOut (onErr Line (sections R rows (start bs))) l
   taken-in h s =
-      ap (λ t. given (cond t (sheetOf R rows bs) (Err ListTooShort)) l) (room l h)
-      ∙ ap (λ t. given (cond t (onErr Line (sections R rows (start bs))) (Err TooLong)) l) (le-leb (length bs) 32768 s)
+      ap (λ t. handedOut (cond t (sheetOf R rows bs) (Err ListTooShort)) l) (room l h)
+      ∙ ap (λ t. handedOut (cond t (onErr Line (sections R rows (start bs))) (Err TooLong)) l) (le-leb (length bs) 32768 s)
 
   module _ (n : Counts) (size : Size) (count : ℕ) (h : Here) (fm : List Move) (fs : List Step) (fc : List ℕ) where
     abbrev W : Result (Read (List V)) AtLine
@@ -72,5 +72,5 @@ module _ {V : Type 0} (R : Rules V) (rows : Rows V) (bs : List ℕ) (l : Lists V
         let lc = length-take-le (n .choices) fc bc in
         let num : n ≡ countsOf found = λ i. record { cells = n .cells; share = n .share; rows = n .rows; moves = sym lm i; steps = sym ls i; choices = sym lc i } in
         (λ i. answering (Ok (num i)) (lists (vals i) (em i) (es i) (ecs i)))
-        ∙ ap (λ r. given (onErr Line r) l) (sym all)
+        ∙ ap (λ r. handedOut (onErr Line r) l) (sym all)
         ∙ sym (taken-in big small)

@@ -128,9 +128,9 @@ abbrev pub answering : {V : Type 0} → Result Counts SheetFault → Lists V →
 answering r l = record { answer = r; lists = l }
 
 -- what was read goes into the lists; a refusal leaves them as they were
-abbrev pub given : {V : Type 0} → Result (Sheet V) SheetFault → Lists V → Answer V
-given (Ok s) l = answering (Ok (countsOf s)) (filled s l)
-given (Err e) l = answering (Err e) l
+abbrev pub handedOut : {V : Type 0} → Result (Sheet V) SheetFault → Lists V → Answer V
+handedOut (Ok s) l = answering (Ok (countsOf s)) (filled s l)
+handedOut (Err e) l = answering (Err e) l
 
 abbrev pub readInto : {V : Type 0} → Rules V → Rows V → List ℕ → Lists V → Answer V
-readInto R rows bs l = given (cond (roomy l) (sheetOf R rows bs) (Err ListTooShort)) l
+readInto R rows bs l = handedOut (cond (roomy l) (sheetOf R rows bs) (Err ListTooShort)) l
