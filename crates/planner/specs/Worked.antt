@@ -14,6 +14,7 @@ use Rattle.yard.specs.declared.batch.Step.{Step}
 use Rattle.yard.specs.Rules.{passes, fails, asked}
 use Rattle.kinds.specs.Stands.{standRules, standRows}
 use Rattle.kinds.specs.Feeders.{feederRules, section}
+use Rattle.dealing.specs.Lanes.{Dealt, dealtOf, dealt, laneMoves, queuesOf, lineUp}
 use Rattle.sheets.specs.Faults.{told, slip}
 use Rattle.sheets.specs.Sheet.{Sheet, sheetOf}
 
@@ -58,3 +59,17 @@ pub record Orders-as-worked : Type 0 where
   pub past-the-limit : asked feederRules 65 101 (section 900 1000) ≡ Some (fails 27)
   pub no-headroom : asked feederRules 72 0 (section 5 4) ≡ Some (fails 29)
   pub all-shed : asked feederRules 83 5 (section 5 4) ≡ Some (passes (section 0 4))
+
+-- the worked sheet's batch, dealt with a share and choices
+abbrev dealtWith : ℕ → List ℕ → Dealt
+dealtWith share choices = dealt standRules 8 share (workedYard .steps) (workedYard .moves) choices
+
+pub record Dealings-as-worked : Type 0 where
+  pub queues : queuesOf (dealtWith 300 (0 ∷ 1 ∷ [])) ≡ (0 ∷ 2 ∷ []) ∷ (1 ∷ []) ∷ (4 ∷ []) ∷ []
+  pub rest : laneMoves (dealtWith 300 (0 ∷ 1 ∷ [])) 0 ≡ 3 ∷ []
+  pub line-up : lineUp (dealtWith 300 (0 ∷ 1 ∷ [])) ≡ 0 ∷ 2 ∷ 1 ∷ 4 ∷ 3 ∷ []
+  pub share-200 : queuesOf (dealtWith 200 (0 ∷ 1 ∷ [])) ≡ (0 ∷ 1 ∷ 2 ∷ 3 ∷ []) ∷ (4 ∷ []) ∷ []
+  pub share-200-rest : laneMoves (dealtWith 200 (0 ∷ 1 ∷ [])) 0 ≡ []
+  pub share-201 : dealtWith 201 (0 ∷ 1 ∷ []) ≡ dealtWith 300 (0 ∷ 1 ∷ [])
+  pub no-choices : dealtWith 300 [] ≡ dealtWith 200 (0 ∷ 1 ∷ [])
+  pub no-moves : dealt standRules 8 300 [] [] [] ≡ dealtOf [] 0

@@ -51,16 +51,8 @@ pub fn read<K: Kind>(
     let mut reader = Reader::new(sheet);
     let (size, rows) = read_head::<K>(&mut reader)?;
     let mut at_rows = reader;
-    let mut found_moves = [Move {
-        label: 0,
-        first: 0,
-        count: 0,
-    }; MOVES];
-    let mut found_steps = [Step {
-        letter: ' ',
-        cell: 0,
-        number: 0,
-    }; STEPS];
+    let mut found_moves = [Move::NONE; MOVES];
+    let mut found_steps = [Step::NONE; STEPS];
     let mut found_choices = [0; CHOICES];
     let counts = read_body::<K>(
         &mut reader,

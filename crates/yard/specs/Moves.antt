@@ -17,19 +17,20 @@ isIn x (y ∷ ys) = eqb y x || isIn x ys
 abbrev pub stepsOf : List Step → Move → List Step
 stepsOf steps m = take (m .count) (drop (m .first) steps)
 
-module _ {V : Type 0} (R : Rules V) where
-  -- the cells that a step names
-  abbrev pub names : Step → List ℕ
-  names s = s .cell ∷ []
+-- the cells that a step names
+abbrev pub names : Step → List ℕ
+names s = s .cell ∷ []
 
+-- some of the steps names the cell
+abbrev pub named : List Step → ℕ → Bool
+named [] c = false
+named (s ∷ ss) c = isIn c (names s) || named ss c
+
+module _ {V : Type 0} (R : Rules V) where
   abbrev pub writes : Step → Bool
   writes s = R .writes (s .letter) (s .number)
 
-  -- some of the steps names the cell; some of them writes it
-  abbrev pub named : List Step → ℕ → Bool
-  named [] c = false
-  named (s ∷ ss) c = isIn c (names s) || named ss c
-
+  -- some of the steps writes the cell
   abbrev pub written : List Step → ℕ → Bool
   written [] c = false
   written (s ∷ ss) c = (writes s && isIn c (names s)) || written ss c
@@ -37,6 +38,6 @@ module _ {V : Type 0} (R : Rules V) where
 -- two moves, as lists of steps, conflict: there is a cell that both name and that one of them writes
 pub record Conflict {V : Type 0} (R : Rules V) (a b : List Step) : Type 0 where
   pub cell : ℕ
-  pub one : named R a cell ≡ true
-  pub other : named R b cell ≡ true
+  pub one : named a cell ≡ true
+  pub other : named b cell ≡ true
   pub writes-it : (written R a cell || written R b cell) ≡ true

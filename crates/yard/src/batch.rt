@@ -16,6 +16,24 @@ pub struct Move {
     pub count: u16,
 }
 
+impl Step {
+    /// An entry of a list of steps that nothing has been written to. No order has this letter.
+    pub const NONE: Step = Step {
+        letter: ' ',
+        cell: 0,
+        number: 0,
+    };
+}
+
+impl Move {
+    /// An entry of a list of moves that nothing has been written to.
+    pub const NONE: Move = Move {
+        label: 0,
+        first: 0,
+        count: 0,
+    };
+}
+
 /// What is dealt in one go: the moves with all their steps, the moves to be sampled, and the share of merging in thousandths.
 #[derive(Clone, Copy)]
 pub struct Batch<'a> {

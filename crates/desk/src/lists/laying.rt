@@ -21,16 +21,8 @@ pub fn lay_out<K: Kind>(heap: Global) -> Result<Desk<K::Value>, AllocError>
     ensures { λ r. ⌜ made r (Laid-out (K·Kind .rows .unnamed)) ⌝ }
 {
     let values = empty_cells::<K>(heap)?;
-    let moves = vec![in heap; Move {
-        label: 0,
-        first: 0,
-        count: 0
-    }; MOVES]?;
-    let steps = vec![in heap; Step {
-        letter: ' ',
-        cell: 0,
-        number: 0
-    }; STEPS]?;
+    let moves = vec![in heap; Move::NONE; MOVES]?;
+    let steps = vec![in heap; Step::NONE; STEPS]?;
     let choices = vec![in heap; 0; CHOICES]?;
     Ok(Desk {
         values,

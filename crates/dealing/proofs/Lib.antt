@@ -1,0 +1,2 @@
+pub mod NoConflict
+pub mod StandsOnce

@@ -1,0 +1,4 @@
+pub mod Active
+pub mod Stages
+pub mod Lanes
+pub mod Facts
