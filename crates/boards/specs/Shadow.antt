@@ -4,7 +4,7 @@ use Prim.Native.Nat.{ℕ, zero, suc}
 use lib.ListN.{length, drop}
 use denote.Ref.{now, name}
 use Rattle.std.specs.declared.option.Option.{Option}
-use Rattle.std.specs.declared.option.Option.the-variants.{Some, None}
+use Rattle.std.specs.declared.option.Option.the-variants.{None}
 use Rattle.std.specs.Options.{valueOr}
 use Rattle.yard.specs.Cells.{Surroundings}
 use Rattle.boards.specs.declared.shadow.ShadowBoard.{ShadowBoard}

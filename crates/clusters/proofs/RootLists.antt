@@ -1,10 +1,9 @@
 -- From the root of each cell to the list of roots.
 use mathlib.Core.Path.{_≡_, refl, sym, _∙_, ap}
 use mathlib.Core.List.{List, map}
-use Prim.Native.Nat.{ℕ, _+_, _<_, _≤_, min, max}
+use Prim.Native.Nat.{ℕ, _<_, _≤_, min, max}
 use native.Mathlib.Omega.{arith}
 use lib.ListN.{length, getD, set}
-use Rattle.std.specs.Iters.{counting}
 use Rattle.std.proofs.shelf.Lists.{same-lists, getD-map, length-map, length-set}
 use Rattle.std.proofs.shelf.Counted.{length-map-counting, getD-map-counting}
 use mathlib.Core.Logic.{inl, inr}

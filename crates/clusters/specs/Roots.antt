@@ -1,5 +1,5 @@
 -- Clusters as the roots of their cells. A list of parents says which cell stands above each; a parent counts only if it is a higher cell of the list.
-use mathlib.Core.List.{List, [], _∷_, map}
+use mathlib.Core.List.{List, map}
 use mathlib.Core.Bool.{cond, _&&_, _||_}
 use mathlib.Core.Path.{_≡_}
 use Prim.Native.Nat.{ℕ, zero, suc, min, max, _<_, _≤_}

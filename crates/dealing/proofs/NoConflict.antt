@@ -1,22 +1,20 @@
 -- Two moves of different queues never conflict: a cell that both name and one writes is active, so both touch its cluster.
 use mathlib.Core.Path.{_≡_, refl, sym, _∙_, ap}
 use mathlib.Core.Logic.{_⊎_, inl, inr, _≢_}
-use mathlib.Core.List.{List, [], _∷_, map}
+use mathlib.Core.List.{List, [], _∷_}
 use mathlib.Core.Bool.{Bool, true, false, cond, _&&_, _||_}
-use Prim.Native.Nat.{ℕ, zero, suc, _+_, _<_, _≤_}
+use Prim.Native.Nat.{ℕ, zero, suc, _<_}
 use native.Mathlib.Omega.{arith}
 use lib.Dec.{eqb}
 use lib.ListN.{length, getD, take, drop}
-use Rattle.std.specs.Iters.{counting}
 use Rattle.std.specs.Options.{valueOr}
 use Rattle.std.proofs.shelf.Tests.{eqb-true, eq-eqb}
 use Rattle.std.proofs.shelf.Counted.{getD-map-counting}
-use Rattle.std.proofs.shelf.Lists.{getD-take, getD-drop, length-take-le}
 use Rattle.yard.specs.Rules.{Rules}
 use Rattle.yard.specs.declared.batch.Step.{Step}
 use Rattle.yard.specs.declared.batch.Move.{Move}
 use Rattle.yard.specs.Moves.{Conflict, isIn, named, written, names, stepsOf}
-use Rattle.dealing.specs.Active.{activeFlags, activeCells, moveCells, noMove, noStep, Within}
+use Rattle.dealing.specs.Active.{activeFlags, activeCells, moveCells, noMove, Within}
 use Rattle.dealing.specs.Lanes.{allAt, together, keyOf, queueIn, laneIn, lanesIn, dealt, queuesMade}
 use Rattle.dealing.specs.Stages.{clustered}
 

@@ -1,6 +1,6 @@
 -- Prepare: the active cells of a batch, and which of them each move names.
 use mathlib.Core.List.{List, [], _∷_, map}
-use mathlib.Core.Bool.{Bool, true, false, cond}
+use mathlib.Core.Bool.{Bool, false, cond}
 use Prim.Native.Nat.{ℕ, _<_}
 use lib.ListN.{length, getD}
 use Rattle.std.specs.Iters.{counting}

@@ -1,8 +1,7 @@
 -- Feeders: a value is a load and a limit. A is 65, S is 83, H is 72, F is 70.
-use mathlib.Core.Bool.{Bool, true, false, cond, _&&_, _||_}
+use mathlib.Core.Bool.{Bool, false, cond, _&&_, _||_}
 use Prim.Native.Nat.{ℕ, _+_, _-_}
 use lib.Dec.{eqb, leb}
-use Rattle.std.specs.declared.option.Option.{Option}
 use Rattle.std.specs.declared.option.Option.the-variants.{Some, None}
 use Rattle.yard.specs.Rules.{Rules, Effect, passes, fails}
 use Rattle.yard.specs.Rows.{Rows}

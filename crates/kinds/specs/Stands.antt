@@ -1,8 +1,7 @@
 -- Stands: a value is the number of a tram, and 0 is an empty stand. T is 84, P is 80, L is 76, S is 83.
-use mathlib.Core.Bool.{Bool, true, false, cond, _&&_, _||_}
+use mathlib.Core.Bool.{Bool, false, cond, _&&_, _||_}
 use Prim.Native.Nat.{ℕ}
 use lib.Dec.{eqb, leb}
-use Rattle.std.specs.declared.option.Option.{Option}
 use Rattle.std.specs.declared.option.Option.the-variants.{Some, None}
 use Rattle.yard.specs.Rules.{Rules, Effect, passes, fails}
 use Rattle.yard.specs.Rows.{Rows}

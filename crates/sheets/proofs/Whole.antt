@@ -1,10 +1,9 @@
 -- A whole sheet, put together from what its parts gave.
 use mathlib.Core.Path.{_≡_, refl, sym, ap, _∙_}
-use mathlib.Core.Bool.{Bool, true, false, cond, _&&_}
-use mathlib.Core.List.{List, [], _∷_, _++_}
+use mathlib.Core.Bool.{true, cond, _&&_}
+use mathlib.Core.List.{List, _++_}
 use Prim.Native.Nat.{ℕ, _≤_}
 use native.Mathlib.Omega.{arith}
-use lib.Dec.{leb}
 use lib.ListN.{length, take, drop}
 use Rattle.std.proofs.shelf.Lists.{length-take-le}
 use Rattle.std.proofs.shelf.Tests.{le-leb}
@@ -23,7 +22,7 @@ use Rattle.sheets.specs.declared.faults.SheetFault.the-variants.{ListTooShort,
 use Rattle.sheets.specs.declared.lines.Size.{Size}
 use Rattle.sheets.specs.Lines.{Read, read}
 use Rattle.sheets.specs.Sections.{rowsRead, valuesRead}
-use Rattle.sheets.specs.Sheet.{Sheet, head, headBy, body, sections, sheetOf, sheetBy, Lists, lists, roomy, laid, filled, countsOf, answering, handedOut, readInto}
+use Rattle.sheets.specs.Sheet.{Sheet, head, headBy, body, sections, sheetOf, sheetBy, Lists, lists, roomy, laid, countsOf, answering, handedOut, readInto}
 use Rattle.sheets.proofs.Rising.{values-long}
 
 first-ok : {A B E : Type 0} (r : Result A E) (f : A → Result B E) (b : B) → andThen r f ≡ Ok b → isOk r ≡ true

@@ -12,7 +12,7 @@ use Rattle.yard.specs.declared.batch.Move.{Move}
 use Rattle.yard.specs.declared.batch.Step.{Step}
 use Rattle.yard.specs.Rules.{Rules}
 use Rattle.yard.specs.Rows.{Rows}
-use Rattle.sheets.specs.Lines.{Read, read, rowLine, moveLine, stepLine, choiceLine}
+use Rattle.sheets.specs.Lines.{Read, read, rowLine, moveLine, stepLine}
 
 -- a line's reading, whose fault tells the line
 abbrev pub inLine : {A : Type 0} → (Here → Result (Read A) LineFault) → Here → Result (Read A) AtLine

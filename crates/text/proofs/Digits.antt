@@ -1,32 +1,15 @@
 -- A numeral looked at from the left, digit by digit.
-use mathlib.Core.Path.{_≡_, refl, sym, ap, _∙_}
-use mathlib.Core.Logic.{_⊎_, inl, inr, ⊎-elim}
-use mathlib.Core.Bool.{Bool, true, false, cond, not, _&&_}
+use mathlib.Core.Path.{_≡_, _∙_}
+use mathlib.Core.Logic.{_⊎_}
+use mathlib.Core.Bool.{true, false, not, _&&_}
 use mathlib.Core.List.{List, [], _∷_}
 use Prim.Native.Nat.{ℕ, _+_, _-_, _*_, _<_, _≤_}
 use native.Mathlib.Omega.{arith}
-use lib.Dec.{eqb, leb}
 use lib.ListN.{length, getD, drop}
 use Rattle.std.proofs.shelf.Lists.{at-drop-more, at-drop-all}
 use Rattle.std.proofs.shelf.Tests.{lt-leb}
 use Rattle.std.proofs.shelf.Ways.{tells}
 use Rattle.text.specs.Numerals.{digit, digits, numeral, worthFrom, sized}
-
--- the tests before the loop
-pub empty : (s : List ℕ) → length s ≡ 0 → false ≡ numeral s
-empty [] h = refl
-empty (c ∷ s) h = absurd (omega arith)
-
-pub zero-first : (s : List ℕ) → 1 < length s → getD s 0 0 ≡ 48 → false ≡ numeral s
-zero-first [] h e = absurd (omega arith)
-zero-first (c ∷ []) h e = absurd (omega arith)
-zero-first (c ∷ d ∷ s) h e = grind (arith, tells)
-
-pub begun : (s : List ℕ) → 0 < length s → ((getD s 0 0 ≡ 48 → ⊥) ⊎ (length s ≤ 1)) → digits s ≡ numeral s
-begun [] h e = absurd (omega arith)
-begun (c ∷ []) h e = grind (arith, tells)
-begun (c ∷ d ∷ s) h (inl e) = grind (arith, tells)
-begun (c ∷ d ∷ s) h (inr e) = absurd (omega arith)
 
 pub on : (s : List ℕ) (i : ℕ) → i < length s → 48 ≤ getD s i 0 → getD s i 0 ≤ 57 → digits (drop i s) ≡ digits (drop (i + 1) s)
 on s i h low high =

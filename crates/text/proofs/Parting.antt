@@ -1,9 +1,9 @@
 -- Lines and words looked at from the left, byte by byte.
 use mathlib.Core.Path.{_≡_, refl, sym, ap, _∙_}
-use mathlib.Core.Logic.{_⊎_, inl, inr}
+use mathlib.Core.Logic.{_⊎_}
 use mathlib.Core.Bool.{Bool, true, false, cond, _&&_, _||_}
 use mathlib.Core.List.{List, [], _∷_}
-use Prim.Native.Nat.{ℕ, suc, _+_, _<_, _≤_}
+use Prim.Native.Nat.{ℕ, _+_, _<_, _≤_}
 use native.Mathlib.Omega.{arith}
 use lib.Dec.{eqb}
 use lib.ListN.{length, getD, drop}
@@ -40,9 +40,6 @@ pub record Sofar (line : List ℕ) (words : ℕ) (begun : Bool) (bs : List ℕ) 
 filledFrom-all : (ws : List (List ℕ)) → filledFrom false ws ≡ allFilled ws
 filledFrom-all [] = refl
 filledFrom-all (w ∷ ws) = refl
-
-pub starts : (line : List ℕ) → Sofar line 1 false line
-starts line = record { full = sym (filledFrom-all (parts line)); count = omega arith }
 
 some-part : (bs : List ℕ) → 0 < length (parts bs)
 some-part [] = omega arith

@@ -1,7 +1,5 @@
-use mathlib.Core.Path.{_≡_, sym, ap, _∙_}
-use Prim.Native.Nat.{_≤_}
+use mathlib.Core.Path.{ap, _∙_}
 use native.Mathlib.Omega.{arith}
-use lib.ListN.{length}
 use Rattle.text.specs.Reading.{here}
 use Rattle.sheets.specs.Sheet.{head, lists}
 use Rattle.sheets.proofs.Whole.{Roomy, whole-read}

@@ -1,13 +1,11 @@
-use mathlib.Core.Path.{_≡_, refl, sym, ap, _∙_}
-use Prim.Native.Nat.{_-_, _+_, _<_, suc}
+use mathlib.Core.Path.{_≡_, sym}
+use Prim.Native.Nat.{_-_, _+_, suc}
 use native.Mathlib.Omega.{arith}
 use Rattle.std.proofs.shelf.Results.{err-from-errBy}
 use Rattle.std.specs.declared.result.Result.the-variants.{Ok, Err}
-use Rattle.text.specs.Faults.{andThen}
 use Rattle.text.specs.Reading.{here}
-use Rattle.sheets.specs.Lines.{rowLine, read}
-use Rattle.sheets.specs.Sections.{rowInto, occupied}
-use Rattle.sheets.proofs.Repeating.{begun, refused, more, done, placed}
+use Rattle.sheets.specs.Lines.{rowLine}
+use Rattle.sheets.proofs.Repeating.{refused, more, done, placed}
 use Rattle.sheets.proofs.Rising.{row-in, row-out, rows-done, rows-refused}
 use Rattle.sheets.proofs.sections.read_rows.Needs as need
 

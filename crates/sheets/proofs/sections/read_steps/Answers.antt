@@ -1,4 +1,4 @@
-use mathlib.Core.Path.{_≡_, refl, sym, ap, _∙_}
+use mathlib.Core.Path.{_≡_, sym, ap, _∙_}
 use Prim.Native.Nat.{_-_, _+_, _<_, suc}
 use native.Mathlib.Nat.{add-zero}
 use native.Mathlib.Omega.{arith}
@@ -8,8 +8,8 @@ use Rattle.std.proofs.shelf.Results.{err-from-errBy}
 use Rattle.std.specs.declared.result.Result.the-variants.{Ok, Err}
 use Rattle.text.specs.Reading.{here}
 use Rattle.sheets.specs.Lines.{stepLine, read}
-use Rattle.sheets.specs.Sections.{listing, repeat}
-use Rattle.sheets.proofs.Repeating.{Sofar, begun, begun-at, refused, more, done, placed, listed, unlisted}
+use Rattle.sheets.specs.Sections.{listing}
+use Rattle.sheets.proofs.Repeating.{begun-at, refused, more, done, placed, listed, unlisted}
 use Rattle.sheets.proofs.sections.read_steps.Needs as need
 
 pub loop-i-holds : need.loop-i-holds
