@@ -10,7 +10,9 @@ use lib.Dec.{eqb}
 use Rattle.std.proofs.shelf.Lists.{length-set, getD-set-same, getD-set-other, getD-past}
 use Rattle.std.proofs.shelf.Tests.{cases-eq}
 use Rattle.std.proofs.shelf.Ways.{tells}
-use Rattle.clusters.specs.Roots.{upOf, climb, rootOf, fused}
+use Rattle.std.specs.Options.{valueOr}
+use Rattle.std.specs.declared.option.Option.the-variants.{Some, None}
+use Rattle.clusters.specs.Roots.{aboveOf, upOf, climb, rootOf, fused}
 
 -- a cell stays, or goes up within the row
 pub up-cases : (ps : List ℕ) (x : ℕ) → (upOf ps x ≡ x) ⊎ ((x < upOf ps x) × (upOf ps x < length ps))
@@ -127,12 +129,14 @@ fused-swap p q r = grind (arith, tells)
 pub fused-same : (p q r : ℕ) → p ≡ q → r ≡ fused p q r
 fused-same p q r e = grind (arith, tells)
 
--- the steps of the code's climb, by what its tests say of the parent u
-pub find-stops : (ps : List ℕ) (x u : ℕ) → u ≡ getD ps x 0 → (u ≤ x) ⊎ (length ps ≤ u) → x ≡ rootOf ps x
-find-stops ps x u e h = sym (root-stays ps x (up-stops ps x (rw (← e) h)))
+-- a climb of the code goes on where there is a cell above, and stops where there is none
+pub find-goes : (ps : List ℕ) (x u r : ℕ) → Some u ≡ aboveOf ps x → r ≡ rootOf ps u → r ≡ rootOf ps x
+unfolding upOf
+find-goes ps x u r e g = g ∙ ap (rootOf ps) (ap (λ o. valueOr o x) e) ∙ sym (root-up ps x)
 
-pub find-goes : (ps : List ℕ) (x u r : ℕ) → u ≡ getD ps x 0 → x < u → u < length ps → r ≡ rootOf ps u → r ≡ rootOf ps x
-find-goes ps x u r e h k g = let g′ = up-goes ps x (rw (← e) h) (rw (← e) k) in let s = root-up ps x in cc
+pub find-stops : (ps : List ℕ) (x : ℕ) → None ≡ aboveOf ps x → x ≡ rootOf ps x
+unfolding upOf
+find-stops ps x e = sym (root-stays ps x (sym (ap (λ o. valueOr o x) e)))
 
 -- the law of a join, by the cells that are joined; either may have the lower root
 pub join-law : (ps : List ℕ) (a b lo hi : ℕ) → lo ≡ rootOf ps a → hi ≡ rootOf ps b → lo < hi → hi < length ps → (x : ℕ) →

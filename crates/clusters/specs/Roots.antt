@@ -6,10 +6,17 @@ use Prim.Native.Nat.{ℕ, zero, suc, min, max, _<_, _≤_}
 use lib.Dec.{eqb, leb, ltb}
 use lib.ListN.{length, getD, set}
 use Rattle.std.specs.Iters.{counting}
+use Rattle.std.specs.Options.{valueOr}
+use Rattle.std.specs.declared.option.Option.{Option}
+use Rattle.std.specs.declared.option.Option.the-variants.{Some, None}
+
+-- the cell above a cell, if there is one
+abbrev pub aboveOf : List ℕ → ℕ → Option ℕ
+aboveOf ps x = cond (ltb x (getD ps x 0) && ltb (getD ps x 0) (length ps)) (Some (getD ps x 0)) None
 
 -- the cell one step up, or the cell itself where it is a root
 unfoldable pub upOf : List ℕ → ℕ → ℕ
-upOf ps x = cond (ltb x (getD ps x 0) && ltb (getD ps x 0) (length ps)) (getD ps x 0) x
+upOf ps x = valueOr (aboveOf ps x) x
 
 -- n steps up
 abbrev pub climb : ℕ → List ℕ → ℕ → ℕ

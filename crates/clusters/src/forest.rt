@@ -3,21 +3,33 @@
 ghost use mathlib.Core.Path.{_≡_};
 ghost use Prim.Native.Nat.{_<_};
 ghost use lib.ListN.{length};
-ghost use Rattle.clusters.specs.Roots.{rootOf, joined, putUnder, Joining-makes-one-cluster-of-two};
+ghost use Rattle.std.specs.Options.{Cases as BySome};
+ghost use Rattle.clusters.specs.Roots.{aboveOf, rootOf, joined, putUnder, Joining-makes-one-cluster-of-two};
 
-/// The root of a cell: the root of its parent, or the cell itself where it is a root. A cell outside the list is its own root.
+/// The root of a cell: the root of the cell above it, or the cell itself where none is above it. A cell outside the list is its own root.
 pub fn find(parents: &[u16], cell: usize) -> usize
-    ensures root { λ r. ⌜ r ≡ rootOf (now (parents .entry)) cell ⌝ }
-    ensures within { λ r. ⌜ (cell < length (now (parents .entry)) → r < length (now (parents .entry))) ⌝ }
+    ensures { λ r. ⌜ r ≡ rootOf (now (parents .entry)) cell ⌝ }
+{
+    match above(parents, cell) {
+        Some(up) => find(parents, up),
+        None => cell,
+    }
+}
+
+// The parent of a cell, if it is a higher cell of the list.
+fn above(parents: &[u16], cell: usize) -> Option<usize>
+    ensures parent { λ r. ⌜ r ≡ aboveOf (now (parents .entry)) cell ⌝ }
+    ensures higher { λ r. ⌜ BySome r (Unit {0}) (λ up. (cell < up) × (up < length (now (parents .entry)))) ⌝ }
 {
     if cell >= parents.len() {
-        return cell;
+        return None;
     }
     let up = usize::from(parents[cell]);
-    if up <= cell || up >= parents.len() {
-        return cell;
+    if up > cell && up < parents.len() {
+        Some(up)
+    } else {
+        None
     }
-    find(parents, up)
 }
 
 /// Joins the clusters of two cells: the lower of their roots goes under the higher.
