@@ -1,5 +1,7 @@
 //! How a batch is dealt into queues and a rest list.
 
+#![tactic(auto)]
+
 mod allocating;
 mod counting;
 mod examining;

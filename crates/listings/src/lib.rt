@@ -1,5 +1,7 @@
 //! The listing of a run, and the line of a refused sheet, as bytes.
 
+#![tactic(auto)]
+
 mod changes;
 pub mod listing;
 mod parts;

@@ -1,5 +1,7 @@
 //! A sheet in, its listing out; which kind a sheet is of; and worked examples.
 
+#![tactic(auto)]
+
 mod calling;
 pub mod kind;
 pub mod plan;

@@ -1,5 +1,7 @@
 //! The calls of a run: steps, looks, tallies and lane questions, and any list of calls with the law that holds of it.
 
+#![tactic(auto)]
+
 mod admitting;
 pub mod asking;
 pub mod lane;

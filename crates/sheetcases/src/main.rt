@@ -3,6 +3,8 @@
 //! In a line `/` stands for LF, `%` and two hexadecimal digits for a byte, and `<`, a number, `>` and a byte for so many of that byte.
 //! A line that begins with `!` and one of `v`, `m`, `s` and `c` has the list of values, moves, steps or choices one entry short.
 
+#![tactic(auto)]
+
 use desk::lists::laying::lay_out;
 use kinds::feeders::Feeders;
 use kinds::stands::Stands;

@@ -1,5 +1,7 @@
 //! Sheets: the kind of a yard, what its cells hold, the moves of a batch and the choices among them.
 
+#![tactic(auto)]
+
 pub mod counts;
 pub mod faults;
 mod lines;

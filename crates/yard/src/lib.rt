@@ -1,5 +1,7 @@
 //! The words that every part of the planner shares: steps, moves and batches, kinds of order, boards, refusals and causes.
 
+#![tactic(auto)]
+
 pub mod batch;
 pub mod board;
 pub mod cause;

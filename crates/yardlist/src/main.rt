@@ -1,5 +1,7 @@
 //! The program: a sheet on standard input, its listing on standard output.
 
+#![tactic(auto)]
+
 use listings::listing::FULL_LENGTH;
 use planner::plan::plan;
 use sheets::read::MOST_BYTES;

@@ -1,5 +1,7 @@
 //! The program: it reads a sheet from standard input and says what it read, or where the slip is.
 
+#![tactic(auto)]
+
 use desk::lists::Desk;
 use desk::lists::laying::lay_out;
 use kinds::feeders::Feeders;
