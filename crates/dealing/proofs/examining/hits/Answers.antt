@@ -8,11 +8,11 @@ pub loop-i-preserved : goal.loop-i-preserved
 loop-i-preserved c =
     let ms = c.args.marked.now.marks.now in
     let rs = roots_of c.args.parents.now in
-    let t = c.is-marked-touched.result in
+    let t = c.is_marked-touched.result in
     let count = count_more ms rs c.args.special.now c.loop-i.hit c.loop-i.i c.from.result c.root.result t (omega arith) (omega arith)
-    c.from.ensures c.root.ensures.root c.is-marked-touched.ensures c.loop-i.count in (
+    c.from.ensures c.root.ensures.root c.is_marked-touched.ensures c.loop-i.count in (
       hits_more ms rs c.args.special.now c.loop-i.hit c.loop-i.i c.from.result c.root.result t (omega arith) (omega arith)
-          c.from.ensures c.root.ensures.root c.is-marked-touched.ensures c.loop-i.invariant.0,
+          c.from.ensures c.root.ensures.root c.is_marked-touched.ensures c.loop-i.invariant.0,
       elim c.if-touched.branch [
         | then-touched w ↦ omega (arith, w.count-is, count true w.if-touched.true c.loop-i.invariant.1)
         | else-touched w ↦ omega (arith, w.count-is, count false w.if-touched.false c.loop-i.invariant.1)

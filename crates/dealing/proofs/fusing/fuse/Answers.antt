@@ -6,7 +6,7 @@ use Rattle.dealing.specs.Stages.{fused_of, fuse}
 use Rattle.dealing.proofs.NoConflict.{cells_at, length_cells}
 use Rattle.dealing.proofs.Staged.{fusing_none, fuse_more, fuse_small, countable, clear_again, zeros_long}
 use Rattle.dealing.proofs.fusing.fuse.Goals as goal
-use Rattle.dealing.proofs.fusing.fuse.Goals.{then-fuse-move, else-fuse-move}
+use Rattle.dealing.proofs.fusing.fuse.Goals.{then-fuse_move, else-fuse_move}
 
 pub loop-place-init : goal.loop-place-init
 loop-place-init c = (
@@ -14,14 +14,14 @@ loop-place-init c = (
   refl,
 )
 
-pub fuse-move-requires : goal.fuse-move-requires
-fuse-move-requires c =
+pub fuse_move-requires : goal.fuse_move-requires
+fuse_move-requires c =
     let css = all_cells c.args.prepared in
     let i = c.loop-place.place in
     let long : length css ≡ length c.args.prepared.moves.now = length_cells c.args.prepared.active.now c.args.prepared.steps.now c.args.prepared.moves.now in
     let part : length (take i css) ≡ i = length-take-le i css (omega arith) in
     record {
-      long = omega (arith, c.cells-of.ensures.count);
+      long = omega (arith, c.cells_of.ensures.count);
       marks = omega (arith, zeros_long (length c.args.parents.now) c.args.marks.now c.requires.clear);
       special = rw c.loop-place.auto.parents c.requires.special;
       hit = omega arith;
@@ -47,17 +47,17 @@ loop-place-preserved c =
     let css = all_cells c.args.prepared in
     let i = c.loop-place.place in
     let start = fused_of (roots_of c.args.parents.now) c.args.sizes.now [] in
-    let cells : cells_in c.cells-of.result ≡ _ =
-    c.cells-of.ensures.cells ∙ sym (cells_at c.args.prepared.active.now c.args.prepared.steps.now c.args.prepared.moves.now i (omega arith)) in
-    let more = c.fuse-move.ensures.fused (fuse c.args.special.now (take i css) start) c.loop-place.skipped c.loop-place.invariant.0 in
-    let state = fuse_more c.args.special.now css i (cells_in c.cells-of.result) start (omega (arith, length_cells c.args.prepared.active.now c.args.prepared.steps.now c.args.prepared.moves.now)) cells in (
-      elim c.if-fuse-move.branch [
-        | then-fuse-move w ↦ rw w.skipped-is (rw (w.if-fuse-move.true, state) at more)
-        | else-fuse-move w ↦
+    let cells : cells_in c.cells_of.result ≡ _ =
+    c.cells_of.ensures.cells ∙ sym (cells_at c.args.prepared.active.now c.args.prepared.steps.now c.args.prepared.moves.now i (omega arith)) in
+    let more = c.fuse_move.ensures.fused (fuse c.args.special.now (take i css) start) c.loop-place.skipped c.loop-place.invariant.0 in
+    let state = fuse_more c.args.special.now css i (cells_in c.cells_of.result) start (omega (arith, length_cells c.args.prepared.active.now c.args.prepared.steps.now c.args.prepared.moves.now)) cells in (
+      elim c.if-fuse_move.branch [
+        | then-fuse_move w ↦ rw w.skipped-is (rw (w.if-fuse_move.true, state) at more)
+        | else-fuse_move w ↦
             let z : c.loop-place.skipped + 0 ≡ c.loop-place.skipped = omega arith in
-            rw w.skipped-is (rw (w.if-fuse-move.false, z, state) at more)
+            rw w.skipped-is (rw (w.if-fuse_move.false, z, state) at more)
       ],
-      clear_again (length c.args.parents.now) c.fuse-move.new.marks c.loop-place.marks c.args.marks.now c.fuse-move.ensures.clear c.loop-place.invariant.1 c.requires.clear,
+      clear_again (length c.args.parents.now) c.fuse_move.new.marks c.loop-place.marks c.args.marks.now c.fuse_move.ensures.clear c.loop-place.invariant.1 c.requires.clear,
     )
 
 pub returns : goal.returns

@@ -8,7 +8,7 @@ use Rattle.dealing.proofs.merging.merge.Goals as goal
 
 pub loop-i-preserved : goal.loop-i-preserved
 loop-i-preserved c =
-    rows_more c.args.share c.args.special.now c.args.sizes.now (pair_count c.args.pairs.now) c.loop-i.i (roots_of c.loop-i.parents) _ _ (omega arith) c.merge-with.ensures c.loop-i.invariant
+    rows_more c.args.share c.args.special.now c.args.sizes.now (pair_count c.args.pairs.now) c.loop-i.i (roots_of c.loop-i.parents) _ _ (omega arith) c.merge_with.ensures c.loop-i.invariant
 
 pub returns-then-not-enough : goal.returns-then-not-enough
 returns-then-not-enough c f fusing =

@@ -16,7 +16,7 @@ loop-step-preserved c =
     elim c.match-counted.branch [
       | in-Some w ↦
           rw w.parents-is
-          (ap (joined_with c.args.first (active_cells act (drop (i + 1) ss))) w.join-two.ensures
+          (ap (joined_with c.args.first (active_cells act (drop (i + 1) ss))) w.join_two.ensures
           ∙ ap (λ (l : List ℕ). joined_with c.args.first l (roots_of c.loop-step.parents))
           (sym (counted_some act ss i (omega arith) w.in-Some.cell w.in-Some.ensures.counted))
           ∙ c.loop-step.invariant)

@@ -9,8 +9,8 @@ use Rattle.dealing.proofs.stages.cluster.Goals as goal
 abbrev zeros : ℕ → List ℕ
 zeros n = replicate n 0
 
-pub fuse-and-merge-requires : goal.fuse-and-merge-requires
-fuse-and-merge-requires c =
+pub fuse_and_merge-requires : goal.fuse_and_merge-requires
+fuse_and_merge-requires c =
     let n = c.spot-count.result in
     let z : n - 0 ≡ n = omega arith in
     let p : length c.spot-count.new.parents ≡ length c.args.parents.now = c.spot-count.auto.parents ∙ c.separate.auto.parents in
@@ -41,6 +41,6 @@ returns c =
       roots = cluster_is (length c.args.parents.now) c.args.share _ (all_cells c.args.prepared) c.args.choices.now
           (roots_of c.separate.new.parents) (roots_of c.spot-count.new.parents) _ _ _ _ c.separate.ensures c.spot-count.ensures.spotted
           (sym (length_cells c.args.prepared.active.now c.args.prepared.steps.now c.args.prepared.moves.now))
-          lent (zeros_lent n c.spot-count.ensures.few ∙ ap zeros (sym (ap length lent ∙ a))) c.fuse-and-merge.ensures.roots;
-      marks = c.fuse-and-merge.ensures.clear ∙ c.spot-count.ensures.clear ∙ m;
+          lent (zeros_lent n c.spot-count.ensures.few ∙ ap zeros (sym (ap length lent ∙ a))) c.fuse_and_merge.ensures.roots;
+      marks = c.fuse_and_merge.ensures.clear ∙ c.spot-count.ensures.clear ∙ m;
     }

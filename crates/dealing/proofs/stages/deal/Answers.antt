@@ -17,10 +17,10 @@ returns g c =
     let p : c.fill.new.self ≡ replicate (length c.cluster.new.parents) 0 = search rules in
     let q : c.fill-2.new.self ≡ replicate (length c.cluster.new.pairs) 0 = search rules in
     record {
-      queues = c.hand-out-queues.ensures.queues ∙ ap (λ (d : Dealt). d.queues) is;
-      few = c.hand-out-queues.ensures.few;
-      line_up = c.hand-out-queues.ensures.line_up ∙ ap (λ (d : Dealt). laid (line_up_of d) c.args.line_up.now) is;
-      lanes = c.hand-out-queues.ensures.lanes ∙ ap (λ (d : Dealt). laid (lane_rows d) c.args.lanes.now) is;
+      queues = c.hand_out-queues.ensures.queues ∙ ap (λ (d : Dealt). d.queues) is;
+      few = c.hand_out-queues.ensures.few;
+      line_up = c.hand_out-queues.ensures.line_up ∙ ap (λ (d : Dealt). laid (line_up_of d) c.args.line_up.now) is;
+      lanes = c.hand_out-queues.ensures.lanes ∙ ap (λ (d : Dealt). laid (lane_rows d) c.args.lanes.now) is;
       parents = p ∙ ap zeros c.cluster.auto.parents;
       marks = c.cluster.ensures.marks;
       pairs = q ∙ ap zeros c.cluster.auto.pairs;

@@ -14,7 +14,7 @@ loop-cell-preserved g c =
     let k = c.loop-cell.cell in
     let v = c.index-values-cell.result in
     let more = λ (o : Option g.row.K-Value.Denot). count_more rows equals closing values k v (omega arith) c.index-values-cell.is o c.loop-cell.count (length (change_lines rows equals closing 0 values)) in
-    elim c.match-change-of.branch [
+    elim c.match-change_of.branch [
       | in-Some w ↦ rw w.count-is (more (Some w.in-Some.field-0) w.in-Some.ensures c.loop-cell.invariant.0, omega (arith, c.loop-cell.invariant.1))
       | in-default w ↦ rw w.count-is (omega (arith, more None w.in-default.ensures c.loop-cell.invariant.0), omega (arith, c.loop-cell.invariant.1))
     ]

@@ -20,7 +20,7 @@ loop-place-preserved g c =
     let place = c.loop-place.place in
     let v = c.args.value in
     one_piece (32 ∷ decimal (rows.tells place v)) (spaced (words_from rows (place + 1) (rows.words - (place + 1)) v)) _ (penned c.loop-place.pen)
-    (ap spaced (words_more rows place v (omega (arith, c.words-in-row-place-end.ensures)))) (rw (c.from.ensures, c.word-at.ensures) at c.word.ensures) c.loop-place.invariant
+    (ap spaced (words_more rows place v (omega (arith, c.words_in_row-place-end.ensures)))) (rw (c.from.ensures, c.word_at.ensures) at c.word.ensures) c.loop-place.invariant
 
 pub returns : goal.returns
 returns g c =
@@ -29,4 +29,4 @@ returns g c =
     let words = spaced (words_from rows 1 (rows.words - 1) v) in
     after (decimal c.args.cell) words (penned c.args.pen.now) c.number.ensures
     (words_all rows c.loop-place.place v (penned c.loop-place.pen) (wrote words (penned c.number.new.self))
-    (omega (arith, c.words-in-row-place-end.ensures)) c.loop-place.invariant c.end-line.ensures)
+    (omega (arith, c.words_in_row-place-end.ensures)) c.loop-place.invariant c.end_line.ensures)

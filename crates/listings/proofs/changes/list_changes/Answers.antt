@@ -17,11 +17,11 @@ loop-cell-preserved g c =
     let v = c.index-values-cell.result in
     one_piece (flat_map line (change_line rows k (change_of equals v (slice_get closing k)))) (flat_map line (change_lines rows equals closing (k + 1) (drop (k + 1) values)))
     (wrote (flat_map line (change_lines rows equals closing 0 values)) (penned c.head.new.self)) (penned c.loop-cell.pen)
-    (text_more rows equals closing values k v (omega arith) c.index-values-cell.is) c.list-change.ensures c.loop-cell.invariant
+    (text_more rows equals closing values k v (omega arith) c.index-values-cell.is) c.list_change.ensures c.loop-cell.invariant
 
 pub returns : goal.returns
 returns g c =
     let lines = change_lines g.K.Kind.rows g.K.Kind.equals (g.B.Board.values c.args.board.now) in
     let values = c.args.values.now in
-    section_wrote 86 c.count-changes.result (lines 0 values) (penned c.args.pen.now) c.count-changes.ensures c.head.ensures
+    section_wrote 86 c.count_changes.result (lines 0 values) (penned c.args.pen.now) c.count_changes.ensures c.head.ensures
     (wrote_all (λ k vs. flat_map line (lines k vs)) (wrote (flat_map line (lines 0 values)) (penned c.head.new.self)) values c.loop-cell.cell (penned c.loop-cell.pen) c.loop-cell.invariant (omega arith))

@@ -30,7 +30,7 @@ loop-place-preserved c =
     let ended = end_words (end_of (get_or outcomes k NotEnded)) in
     wrote_more (lines outcomes) _ moves k (penned c.loop-place.pen) c.loop-place.invariant (line (label ∷ ended)) no_move (omega arith)
     (ap (λ (os : List Outcome). flat_map line (outcome_lines (get_or moves k no_move ∷ drop (k + 1) moves) (map end_of os))) (drop_more outcomes k NotEnded (omega arith)))
-    (after (decimal label) (spaced ended) (penned c.loop-place.pen) (rw c.from.ensures at c.number.ensures) c.list-end.ensures)
+    (after (decimal label) (spaced ended) (penned c.loop-place.pen) (rw c.from.ensures at c.number.ensures) c.list_end.ensures)
 
 pub returns : goal.returns
 returns c =

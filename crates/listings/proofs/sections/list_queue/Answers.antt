@@ -14,4 +14,4 @@ pub returns : goal.returns
 returns c =
     let places = c.args.places.now in
     after (decimal (length places)) (spaced places) (penned c.args.pen.now) c.number.ensures
-    (c.end-line.ensures ∙ wrote_all (λ _. spaced) _ places c.loop-place.place-index (penned c.loop-place.pen) c.loop-place.invariant (omega arith))
+    (c.end_line.ensures ∙ wrote_all (λ _. spaced) _ places c.loop-place.place-index (penned c.loop-place.pen) c.loop-place.invariant (omega arith))

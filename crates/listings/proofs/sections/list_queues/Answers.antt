@@ -17,7 +17,7 @@ loop-row-preserved c =
     let queues = c.args.queues.now in
     let k = c.loop-row.row-index in
     wrote_more (lines line_up) _ queues k (penned c.loop-row.pen) c.loop-row.invariant (line (queue_line line_up (get_or queues k no_row))) no_row (omega arith) refl
-    (rw c.lane-moves.ensures at c.list-queue.ensures)
+    (rw c.lane_moves.ensures at c.list_queue.ensures)
 
 pub returns : goal.returns
 returns c =

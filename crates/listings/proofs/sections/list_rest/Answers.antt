@@ -16,7 +16,7 @@ loop-place-preserved c =
     let k = c.loop-place.place-index in
     let place = get_or places k 0 in
     wrote_more lines _ places k (penned c.loop-place.pen) c.loop-place.invariant (line (alone place)) 0 (omega arith) refl
-    (after (decimal place) (10 ∷ []) _ (rw c.from.ensures at c.number.ensures) c.end-line.ensures)
+    (after (decimal place) (10 ∷ []) _ (rw c.from.ensures at c.number.ensures) c.end_line.ensures)
 
 pub returns : goal.returns
 returns c =

@@ -7,8 +7,8 @@ use Rattle.planner.specs.Calling.{counts_in}
 use Rattle.planner.proofs.Called.{laid_more, counts_more, counts_all}
 use Rattle.planner.proofs.calling.call_lane.Goals as goal
 
-pub call-steps-at-requires : goal.call-steps-at-requires
-call-steps-at-requires c =
+pub call_steps-at-requires : goal.call_steps-at-requires
+call_steps-at-requires c =
     omega (arith, counts_more c.args.moves.now c.args.places.now c.loop-place.place-index c.from.result (omega arith) c.from.ensures)
 
 pub loop-place-preserved : goal.loop-place-preserved
@@ -19,10 +19,10 @@ loop-place-preserved c =
     let step = StepOn c.args.lane in
     let more = counts_more moves c.args.places.now c.loop-place.place-index c.from.result (omega arith) c.from.ensures in
     let same = replicate-append-replicate count rest step ∙ ap (λ (n : ℕ). replicate n step) (sym more) in (
-      omega (arith, c.call-steps-at.ensures.end),
-      laid_more c.loop-place.at c.call-steps-at.result count step c.loop-place.calls c.call-steps-at.new.calls (replicate rest step) _
+      omega (arith, c.call_steps-at.ensures.end),
+      laid_more c.loop-place.at c.call_steps-at.result count step c.loop-place.calls c.call_steps-at.new.calls (replicate rest step) _
           (ap (λ (l : List Call). take c.loop-place.at c.loop-place.calls ++ l) same ∙ c.loop-place.invariant.1)
-          c.call-steps-at.ensures.calls,
+          c.call_steps-at.ensures.calls,
     )
 
 pub returns : goal.returns

@@ -14,13 +14,13 @@ pub returns-in-err-opening : goal.returns-in-err-opening
 returns-in-err-opening g c =
     let R = g.K.Kind.rules in
     let b = listed c.args.batch in
-    let p = err_from_is_err_and c.from-residual.result c.from-residual.ensures.1 in
+    let p = err_from_is_err_and c.from_residual.result c.from_residual.ensures.1 in
     rw (p.1, p.2)
     (planned_refused R g.K.Kind.rows g.K.Kind.equals b c.args.values.now c.args.listing.now (g.B.Board.values c.args.board.now) c.requires.holds
     (refusal_number c.in-err-opening.field-0.0) _ c.in-err-opening.ensures.opened)
 
-pub work-through-requires : goal.work-through-requires
-work-through-requires g c =
+pub work_through-requires : goal.work_through-requires
+work_through-requires g c =
     record {
       opened = record {
         before = empty_lists;
@@ -38,6 +38,6 @@ returns g c =
     let R = g.K.Kind.rules in
     let b = listed c.args.batch in
     let l = lists c.open.new.line_up c.open.new.lanes c.open.new.outcomes c.open.new.parents c.open.new.marks c.open.new.pairs in
-    let end = stand (g.B.Board.values c.work-through.new.board) (map end_of c.work-through.new.outcomes) in
+    let end = stand (g.B.Board.values c.work_through.new.board) (map end_of c.work_through.new.outcomes) in
     planned_run R g.K.Kind.rows g.K.Kind.equals b c.args.values.now c.args.listing.now (g.B.Board.values c.args.board.now) c.requires.holds
-    (numbers_in c.in-ok-opening.opening) l c.args.saved.now end _ c.in-ok-opening.ensures.opened c.work-through.ensures.whole c.list.ensures
+    (numbers_in c.in-ok-opening.opening) l c.args.saved.now end _ c.in-ok-opening.ensures.opened c.work_through.ensures.whole c.list.ensures

@@ -46,8 +46,8 @@ front-values-requires g c =
     let after = lists c.read.new.values c.read.new.moves c.read.new.steps c.read.new.choices in
     (read_values {l = l} {after = after} (was_read g.K.Kind.rules g.K.Kind.rows c.args.sheet.now l c.in-Ok.counts after c.in-Ok.ensures) c.read.auto.values).within
 
-pub plan-batch-requires : goal.plan-batch-requires
-plan-batch-requires g c =
+pub plan_batch-requires : goal.plan_batch-requires
+plan_batch-requires g c =
     let l = read_into c.args.values.now in
     let after = lists c.read.new.values c.read.new.moves c.read.new.steps c.read.new.choices in
     let front = read_values {l = l} {after = after} (was_read g.K.Kind.rules g.K.Kind.rows c.args.sheet.now l c.in-Ok.counts after c.in-Ok.ensures) c.read.auto.values in
@@ -67,10 +67,10 @@ returns-in-Ok g c =
     (c.front.ensures ∙ (read_moves {l = l} {after = after} w c.read.auto.moves).is) (c.front-in-Ok.ensures ∙ (read_steps {l = l} {after = after} w c.read.auto.steps).is)
     (c.front-in-Ok-2.ensures ∙ (read_choices {l = l} {after = after} w c.read.auto.choices).is))
     (c.front-values.ensures ∙ (read_values {l = l} {after = after} w c.read.auto.values).is)
-    c.plan-batch.ensures
+    c.plan_batch.ensures
 
 pub returns-in-Err : goal.returns-in-Err
 returns-in-Err g c =
     planned_slip g.K.Kind.rules g.K.Kind.rows g.K.Kind.equals c.args.sheet.now c.args.listing.now c.in-Err.fault _
     (was_refused g.K.Kind.rules g.K.Kind.rows c.args.sheet.now (read_into c.args.values.now) c.in-Err.fault _ (full c.args.values.now c.requires.values) c.in-Err.ensures)
-    (c.list-slip.ensures ∙ ap (λ (s : Slip). laid_into (slip_bytes s.number s.line s.word) c.args.listing.now) c.slip-slip.ensures)
+    (c.list_slip.ensures ∙ ap (λ (s : Slip). laid_into (slip_bytes s.number s.line s.word) c.args.listing.now) c.slip-slip.ensures)

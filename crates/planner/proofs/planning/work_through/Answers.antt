@@ -9,8 +9,8 @@ use Rattle.planner.proofs.Finishing.{worked_all, worked_state, finished, in_orde
 use Rattle.planner.proofs.OpenedCalls.{callable, calls_are_all}
 use Rattle.planner.proofs.planning.work_through.Goals as goal
 
-pub write-calls-count-requires : goal.write-calls-count-requires
-write-calls-count-requires g c =
+pub write_calls-count-requires : goal.write_calls-count-requires
+write_calls-count-requires g c =
     callable g.K.Kind.rules (listed c.args.script.batch) _ (numbers_in c.args.script.opening) c.args.script.line_up.now c.args.lanes.now c.args.outcomes.now
     2048 c.requires.opened (omega arith)
 
@@ -24,13 +24,13 @@ returns g c =
     let vs = g.B.Board.values c.args.board.now in
     let start = state_of vs c.args.saved.now c.args.outcomes.now c.args.lanes.now in
     let final = state_of (g.B.Board.values c.perform.new.board) c.perform.new.saved c.perform.new.outcomes c.perform.new.lanes in
-    let k = c.write-calls-count.result in
+    let k = c.write_calls-count.result in
     let z : k - 0 ≡ k = omega arith in
     let room : n.steps ≤ length c.args.saved.now = omega (arith, c.args.script.opening.few_steps) in
-    let calls = take (k - 0) c.write-calls-count.new.calls in
+    let calls = take (k - 0) c.write_calls-count.new.calls in
     let long : length calls ≤ length c.args.answers.now =
-    omega (arith, length-take-le (k - 0) c.write-calls-count.new.calls (omega (arith, c.write-calls-count.ensures.few, c.write-calls-count.auto.calls)), c.write-calls-count.ensures.few, c.requires.answers) in
-    let all = ap (λ (i : ℕ). take i c.write-calls-count.new.calls) z ∙ c.write-calls-count.ensures.calls
+    omega (arith, length-take-le (k - 0) c.write_calls-count.new.calls (omega (arith, c.write_calls-count.ensures.few, c.write_calls-count.auto.calls)), c.write_calls-count.ensures.few, c.requires.answers) in
+    let all = ap (λ (i : ℕ). take i c.write_calls-count.new.calls) z ∙ c.write_calls-count.ensures.calls
     ∙ calls_are_all R b (length vs) n lu c.args.lanes.now c.args.outcomes.now vs c.args.saved.now (map end_of c.args.outcomes.now) c.requires.opened in
     let performed = c.perform.ensures.performed in
     let ok = worked_all R (script_of c.args.script) calls start c.args.answers.now final c.perform.new.answers c.perform.result long performed in

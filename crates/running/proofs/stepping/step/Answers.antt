@@ -9,8 +9,8 @@ use Rattle.running.proofs.Admitted.{let_through, refused}
 use Rattle.running.proofs.Turned.{state_after, reply_after, state_refused, reply_refused}
 use Rattle.running.proofs.stepping.step.Goals as goal
 
-pub take-turn-answer-requires : goal.take-turn-answer-requires
-take-turn-answer-requires g c =
+pub take_turn-answer-requires : goal.take_turn-answer-requires
+take_turn-answer-requires g c =
     let st = state_of (g.B.Board.values c.args.board.now) c.args.saved.now c.args.outcomes.now c.args.lanes.now in
     let free = let_through g.K.Kind.rules (script_of c.args.script) st c.args.script.opening.few_steps c.args.lane (row_in c.in-Ok.found) c.in-Ok.ensures in
     free.is_due
@@ -28,11 +28,11 @@ returns-in-Ok g c =
     let row = row_in c.in-Ok.found in
     let st = state_of (g.B.Board.values c.args.board.now) c.args.saved.now c.args.outcomes.now c.args.lanes.now in
     let free = let_through R S st c.args.script.opening.few_steps c.args.lane row c.in-Ok.ensures in
-    let t = turn_of (g.B.Board.values c.take-turn-answer.new.board) c.take-turn-answer.new.saved c.take-turn-answer.new.outcomes c.take-turn-answer.result in
+    let t = turn_of (g.B.Board.values c.take_turn-answer.new.board) c.take_turn-answer.new.saved c.take_turn-answer.new.outcomes c.take_turn-answer.result in
     record {
-      after = state_after R S st c.args.lane row t free.none free.its_row c.take-turn-answer.ensures.turn;
-      reply = reply_after R S st c.args.lane row t free.none free.its_row c.take-turn-answer.ensures.turn;
-      around = c.take-turn-answer.ensures.around;
+      after = state_after R S st c.args.lane row t free.none free.its_row c.take_turn-answer.ensures.turn;
+      reply = reply_after R S st c.args.lane row t free.none free.its_row c.take_turn-answer.ensures.turn;
+      around = c.take_turn-answer.ensures.around;
     }
 
 pub returns-in-Err : goal.returns-in-Err

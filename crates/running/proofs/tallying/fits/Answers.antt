@@ -7,8 +7,8 @@ use Rattle.running.proofs.tallying.fits.Goals as goal
 
 pub returns-then-count-outcomes : goal.returns-then-count-outcomes
 returns-then-count-outcomes c =
-    tally_within (numbers_in c.args.opening) c.args.moves.now c.args.lanes.now c.args.outcomes.now c.all-within.result (omega arith) (omega arith) (omega arith)
-    (c.all-within.ensures ∙ ap (λ q. rows_within c.args.lanes.now (q + 1)) (c.from-queues.ensures ∙ c.queues.ensures))
+    tally_within (numbers_in c.args.opening) c.args.moves.now c.args.lanes.now c.args.outcomes.now c.all_within.result (omega arith) (omega arith) (omega arith)
+    (c.all_within.ensures ∙ ap (λ q. rows_within c.args.lanes.now (q + 1)) (c.from-queues.ensures ∙ c.queues.ensures))
 
 pub returns-else-count-outcomes : goal.returns-else-count-outcomes
 returns-else-count-outcomes c = search (rules, length-map)

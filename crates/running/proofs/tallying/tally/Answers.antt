@@ -8,8 +8,8 @@ ended-ended-requires c =
     let long = tally_lists (numbers_in c.args.opening) c.args.moves.now c.args.lanes.now c.args.outcomes.now (sym c.if-not-fits.ensures) in
     record { moves = omega arith; outcomes = omega arith; few = omega arith }
 
-pub under-way-requires : goal.under-way-requires
-under-way-requires c =
+pub under_way-requires : goal.under_way-requires
+under_way-requires c =
     let long = tally_lists (numbers_in c.args.opening) c.args.moves.now c.args.lanes.now c.args.outcomes.now (sym c.if-not-fits.ensures) in
     record { within = omega arith; few = omega arith }
 

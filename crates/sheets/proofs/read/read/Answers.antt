@@ -10,12 +10,12 @@ returns g c =
     let big : Roomy l = record { values = omega arith; moves = omega arith; steps = omega arith; choices = omega arith } in
     let top = c.in-ok-size.ensures in
     let all = c.in-ok-counts.ensures in
-    let kept = c.read-body.auto in
+    let kept = c.read_body.auto in
     whole_read g.K.Kind.rules g.K.Kind.rows c.args.sheet.now l
-    c.in-ok-counts.counts c.in-ok-size.size c.in-ok-size.rows (here c.read-head.new.reader) c.read-body.new.moves c.read-body.new.steps c.read-body.new.choices
+    c.in-ok-counts.counts c.in-ok-size.size c.in-ok-size.rows (here c.read_head.new.reader) c.read_body.new.moves c.read_body.new.steps c.read_body.new.choices
     big (omega arith)
     (top.answer ∙ ap (head g.K.Kind.rows.letter) c.new-reader.ensures)
     all.answer
     all.bound.0 (omega (arith, all.bound.1, kept.moves)) (omega (arith, all.bound.2, kept.steps)) (omega (arith, all.bound.3, kept.choices))
-    c.write-values.new.values c.put-front.new.list c.put-front-2.new.list c.put-front-3.new.list
-    c.write-values.ensures c.put-front.ensures c.put-front-2.ensures c.put-front-3.ensures
+    c.write_values.new.values c.put_front.new.list c.put_front-2.new.list c.put_front-3.new.list
+    c.write_values.ensures c.put_front.ensures c.put_front-2.ensures c.put_front-3.ensures

@@ -13,7 +13,7 @@ loop-i-init g c = (omega arith, begun (move_into g.K.Kind.rules c.args.cells) c.
 
 pub returns-in-err-found : goal.returns-in-err-found
 returns-in-err-found g c =
-    let p = err_from_is_err_and c.from-residual.result c.from-residual.ensures.1 in
+    let p = err_from_is_err_and c.from_residual.result c.from_residual.ensures.1 in
     rw (p.1, p.2) (record {
       answer = sym (refused c.loop-i.invariant.1 _ (omega arith) (move_out g.K.Kind.rules c.args.cells (take c.loop-i.i c.loop-i.moves) (take c.loop-i.filled c.loop-i.steps) (here c.loop-i.reader) _ c.in-err-found.ensures.answer));
       bound = tt;

@@ -8,10 +8,10 @@ use Rattle.sheets.proofs.sections.read_rows.Goals as goal
 
 pub returns-in-err-row : goal.returns-in-err-row
 returns-in-err-row g c =
-    let p = err_from_is_err_and c.from-residual.result c.from-residual.ensures.1 in
+    let p = err_from_is_err_and c.from_residual.result c.from_residual.ensures.1 in
     let f = row_line g.K.Kind.rows c.args.cells c.loop-i.low in
     rw (p.1, p.2) (sym (rows_refused (refused c.loop-i.invariant _ (omega arith) (row_out g.K.Kind.rows c.args.cells c.loop-i.low c.loop-i.values (here c.loop-i.reader) _
-    (placed f (here c.loop-i.reader) _ c.line-line.result c.row-line.result (Err _) c.line-line.ensures c.in-err-row.ensures c.row-line.ensures.answer)))))
+    (placed f (here c.loop-i.reader) _ c.line-line.result c.row_line.result (Err _) c.line-line.ensures c.in-err-row.ensures c.row_line.ensures.answer)))))
 
 pub loop-i-preserved : goal.loop-i-preserved
 loop-i-preserved g c =
@@ -19,9 +19,9 @@ loop-i-preserved g c =
     let f = row_line g.K.Kind.rows c.args.cells c.loop-i.low in
     let n : c.args.count - i ≡ suc (c.args.count - (i + 1)) = omega arith in
     more c.loop-i.invariant (c.args.count - (i + 1)) _ _ n
-    (row_in g.K.Kind.rows c.args.cells c.loop-i.low c.loop-i.values c.set-cell.new.values (here c.loop-i.reader) c.in-ok-row.row _
-    c.set-cell.ensures
-    (placed f (here c.loop-i.reader) _ c.line-line.result c.row-line.result (Ok _) c.line-line.ensures c.in-ok-row.ensures c.row-line.ensures.answer))
+    (row_in g.K.Kind.rows c.args.cells c.loop-i.low c.loop-i.values c.set_cell.new.values (here c.loop-i.reader) c.in-ok-row.row _
+    c.set_cell.ensures
+    (placed f (here c.loop-i.reader) _ c.line-line.result c.row_line.result (Ok _) c.line-line.ensures c.in-ok-row.ensures c.row_line.ensures.answer))
 
 pub returns : goal.returns
 returns g c =

@@ -11,7 +11,7 @@ loop-byte-preserved c =
     let s = c.args.part.now in
     let i = c.loop-byte.byte-index in
     elim c.if-value-le65535.branch [
-      | then-value-le65535 w ↦ (omega (arith, w.value-is), ap (λ v. sized (worth_from v (drop (i + 1) s))) (w.value-is ∙ ap (λ d. n * 10 + d) (w.from.ensures ∙ w.saturating-sub.ensures)) ∙ sym (worth_on n s i (omega arith)) ∙ c.loop-byte.invariant.1)
+      | then-value-le65535 w ↦ (omega (arith, w.value-is), ap (λ v. sized (worth_from v (drop (i + 1) s))) (w.value-is ∙ ap (λ d. n * 10 + d) (w.from.ensures ∙ w.saturating_sub.ensures)) ∙ sym (worth_on n s i (omega arith)) ∙ c.loop-byte.invariant.1)
       | else-value-le65535 w ↦ (omega (arith, w.value-is), ap (λ v. sized (worth_from v (drop (i + 1) s))) w.value-is ∙ sym (worth_over n s i (omega arith) w.if-value-le65535.false) ∙ c.loop-byte.invariant.1)
     ]
 

@@ -16,32 +16,32 @@ pub returns-in-err-check : goal.returns-in-err-check
 returns-in-err-check g c =
     let l = lists c.args.line_up.now c.args.lanes.now c.args.outcomes.now c.args.parents.now c.args.marks.now c.args.pairs.now in
     let b = listed c.args.batch in
-    let p = err_from_is_err_and c.from-residual.result c.from-residual.ensures.1 in
-    let found = as_found g.K.Kind.rules b _ _ _ _ c.have-room-roomy.ensures c.count.ensures in
+    let p = err_from_is_err_and c.from_residual.result c.from_residual.ensures.1 in
+    let found = as_found g.K.Kind.rules b _ _ _ _ c.have_room-roomy.ensures c.count.ensures in
     rw (p.1, p.2)
     record { sound = tt; opened = open_refuses g.K.Kind.rules b (length (g.B.Board.values c.args.board.now)) l (refusal_number c.in-err-check.field-0.0) (c.in-err-check.ensures ∙ found) }
 
 pub fill-queues-requires : goal.fill-queues-requires
 fill-queues-requires g c =
-    let a = accepted g.K.Kind.rules (listed c.args.batch) c.have-room-roomy.result c.count.result (sym c.in-ok-check.ensures) in
+    let a = accepted g.K.Kind.rules (listed c.args.batch) c.have_room-roomy.result c.count.result (sym c.in-ok-check.ensures) in
     record {
       batch = dealable g.K.Kind.rules (listed c.args.batch) _ _ a;
-      room = room_in c.args.line_up.now c.args.lanes.now c.args.outcomes.now c.args.parents.now c.args.marks.now c.args.pairs.now (sym c.have-room-roomy.ensures ∙ a.roomy);
+      room = room_in c.args.line_up.now c.args.lanes.now c.args.outcomes.now c.args.parents.now c.args.marks.now c.args.pairs.now (sym c.have_room-roomy.ensures ∙ a.roomy);
     }
 
 pub overflow-cast-result : goal.overflow-cast-result
 overflow-cast-result g c =
-    let a = accepted g.K.Kind.rules (listed c.args.batch) c.have-room-roomy.result c.count.result (sym c.in-ok-check.ensures) in
+    let a = accepted g.K.Kind.rules (listed c.args.batch) c.have_room-roomy.result c.count.result (sym c.in-ok-check.ensures) in
     omega (arith, (shape_of (listed c.args.batch) a.shape).moves)
 
 pub overflow-cast-result-2 : goal.overflow-cast-result-2
 overflow-cast-result-2 g c =
-    let a = accepted g.K.Kind.rules (listed c.args.batch) c.have-room-roomy.result c.count.result (sym c.in-ok-check.ensures) in
+    let a = accepted g.K.Kind.rules (listed c.args.batch) c.have_room-roomy.result c.count.result (sym c.in-ok-check.ensures) in
     omega (arith, (shape_of (listed c.args.batch) a.shape).steps)
 
 pub invariant-of-result : goal.invariant-of-result
 invariant-of-result g c =
-    let a = accepted g.K.Kind.rules (listed c.args.batch) c.have-room-roomy.result c.count.result (sym c.in-ok-check.ensures) in
+    let a = accepted g.K.Kind.rules (listed c.args.batch) c.have_room-roomy.result c.count.result (sym c.in-ok-check.ensures) in
     let shape = shape_of (listed c.args.batch) a.shape in
     ((dealable g.K.Kind.rules (listed c.args.batch) _ _ a).cells, (shape.moves, (shape.steps, (c.fill-queues.ensures.few, tt))))
 
@@ -50,8 +50,8 @@ returns g c =
     let R = g.K.Kind.rules in
     let l = lists c.args.line_up.now c.args.lanes.now c.args.outcomes.now c.args.parents.now c.args.marks.now c.args.pairs.now in
     let b = listed c.args.batch in
-    let found = as_found R b _ _ _ _ c.have-room-roomy.ensures c.count.ensures in
-    let a = accepted R b c.have-room-roomy.result c.count.result (sym c.in-ok-check.ensures) in
+    let found = as_found R b _ _ _ _ c.have_room-roomy.ensures c.count.ensures in
+    let a = accepted R b c.have_room-roomy.result c.count.result (sym c.in-ok-check.ensures) in
     let filled = c.fill-queues.ensures.filled in
     record {
       opened = open_fills R b (length (g.B.Board.values c.args.board.now)) l _ _ (c.in-ok-check.ensures ∙ found) (rw c.fill-queues.ensures.queues) filled;

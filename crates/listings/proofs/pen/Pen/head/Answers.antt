@@ -8,4 +8,4 @@ returns c =
     let s = penned c.args.self.now in
     let letter = c.args.letter in
     let words = 32 ∷ decimal c.args.count in
-    after (letter ∷ words) (10 ∷ []) s (after (letter ∷ []) words s c.put.ensures c.word.ensures) c.end-line.ensures
+    after (letter ∷ words) (10 ∷ []) s (after (letter ∷ []) words s c.put.ensures c.word.ensures) c.end_line.ensures

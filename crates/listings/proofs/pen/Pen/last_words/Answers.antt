@@ -10,4 +10,4 @@ returns c =
     let second = c.args.second in
     after (32 ∷ decimal c.args.first) (spaced (second ∷ third ∷ [])) (penned c.args.self.now) c.word.ensures
     (after (32 ∷ decimal second) (spaced (third ∷ [])) (penned c.word.new.self) c.word-2.ensures
-    (after (32 ∷ decimal third) (spaced []) (penned c.word-2.new.self) c.word-3.ensures c.end-line.ensures))
+    (after (32 ∷ decimal third) (spaced []) (penned c.word-2.new.self) c.word-3.ensures c.end_line.ensures))

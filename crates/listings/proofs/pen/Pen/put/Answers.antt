@@ -5,6 +5,6 @@ use Rattle.listings.proofs.pen.Pen.put.Goals.{then-self, else-self}
 pub returns : goal.returns
 returns c =
     elim c.if-self.branch [
-      | then-self w ↦ rw (c.saturating-add-self.ensures, w.self-is)
-      | else-self w ↦ rw (c.saturating-add-self.ensures, w.self-is, set_past c.args.self.now.paper.now c.args.self.now.at c.args.byte w.if-self.false)
+      | then-self w ↦ rw (c.saturating_add-self.ensures, w.self-is)
+      | else-self w ↦ rw (c.saturating_add-self.ensures, w.self-is, set_past c.args.self.now.paper.now c.args.self.now.at c.args.byte w.if-self.false)
     ]

@@ -11,8 +11,8 @@ use Rattle.listings.proofs.run_lists.writing.write.Goals as goal
 ends_there : {V : Type 0} (r : Run V) → is_this_run r ≡ true → r.numbers.moves ≤ length r.ends
 ends_there r e = grind (arith, nat_tests)
 
-pub list-outcomes-requires : goal.list-outcomes-requires
-list-outcomes-requires g c =
+pub list_outcomes-requires : goal.list_outcomes-requires
+list_outcomes-requires g c =
     let run = c.args.run in
     let there = ends_there (run_in run (g.B.Board.values c.args.board.now)) c.requires in
     rw (c.part-2.ensures, length-take (c.from-moves.result - 0) run.moves.now) (omega (arith, there, length-map run.outcomes.now end_of, c.from-moves.ensures, c.moves.ensures))
@@ -26,7 +26,7 @@ returns g c =
     let v = change_section g.K.Kind.rows g.K.Kind.equals (g.B.Board.values c.args.board.now) (part run.values.now 0 run.opening.cells) in
     let s = penned c.args.pen.now in
     after (q ++ r ++ e) v s (after (q ++ r) e s (after q r s
-    (rw (c.part.ensures, c.from-queues.ensures, c.queues.ensures) at c.list-queues.ensures)
-    (rw c.lane-moves.ensures at c.list-rest.ensures))
-    (rw (c.part-2.ensures, c.from-moves.ensures, c.moves.ensures) at c.list-outcomes.ensures))
-    (rw (c.part-3.ensures, c.from_cells.ensures, c.cells.ensures) at c.list-changes.ensures)
+    (rw (c.part.ensures, c.from-queues.ensures, c.queues.ensures) at c.list_queues.ensures)
+    (rw c.lane_moves.ensures at c.list_rest.ensures))
+    (rw (c.part-2.ensures, c.from-moves.ensures, c.moves.ensures) at c.list_outcomes.ensures))
+    (rw (c.part-3.ensures, c.from_cells.ensures, c.cells.ensures) at c.list_changes.ensures)
