@@ -17,7 +17,7 @@ both : (f g : Option ℕ) (xs ys : List (Option ℕ)) → f ≡ g → xs ≡ ys 
 both f g xs ys e d = rw (e, d)
 
 pub loop-place-init : goal.loop-place-init
-loop-place-init c = (omega arith, refl, queued_none (roots_of c.args.parents.now) (all_cells c.args.prepared) _ c.args.lane_of_lem.now no_queues_lem)
+loop-place-init c = (omega arith, refl, queued_none (roots_of c.args.parents.now) (all_cells c.args.prepared) _ c.args.lane_of.now no_queues_lem)
 
 pub loop-place-preserved : goal.loop-place-preserved
 loop-place-preserved c =
@@ -52,7 +52,7 @@ loop-place-preserved c =
             queued_as rs css _ _ _ _ _ _ _ w.made-is (both _ _ _ _ w.free_queue-is w.queue_of-is) w.lane_of-is
                 (queued_new rs css i made qs ls cs (omega arith) (omega arith) cells c.loop-place.invariant.2 (suc w.in-One.root) k.0 k.1 (omega (arith, w.in-One.ensures.within)) (omega (arith, c.loop-place.invariant.1)) w.in-None.is),
           )
-      | goal.in-Nothing+in-Some-free-queue w ↦
+      | goal.in-Nothing+in-Some-free_queue w ↦
           let k = key_some _ _ _ w.in-Nothing.ensures.touched in (
             omega (arith, w.made-is),
             ap length w.queue_of-is ∙ c.loop-place.invariant.1,

@@ -4,8 +4,8 @@ use Rattle.dealing.proofs.Growing.{drop_at, grow_yes, grow_no, grow_all}
 use Rattle.dealing.proofs.counting.grow.Goals as goal
 use Rattle.dealing.proofs.counting.grow.Goals.{then-hit-i, else-hit-i}
 
-pub overflow-add-sizes : goal.overflow-add-sizes
-overflow-add-sizes c = omega (arith, drop_at c.loop-i.i c.loop-i.sizes c.args.sizes.now c.loop-i.invariant.1, c.requires.room c.loop-i.i c.loop-i-test.true)
+pub overflow_add-sizes : goal.overflow_add-sizes
+overflow_add-sizes c = omega (arith, drop_at c.loop-i.i c.loop-i.sizes c.args.sizes.now c.loop-i.invariant.1, c.requires.room c.loop-i.i c.loop-i-test.true)
 
 pub loop-i-preserved : goal.loop-i-preserved
 loop-i-preserved c =

@@ -33,8 +33,8 @@ fuse_move-requires c =
           (c.loop-place.auto.pairs ∙ zeros_long 4096 c.args.pairs.now c.requires.pairs);
     }
 
-pub overflow-add-skipped : goal.overflow-add-skipped
-overflow-add-skipped c =
+pub overflow_add-skipped : goal.overflow_add-skipped
+overflow_add-skipped c =
     let css = all_cells c.args.prepared in
     let i = c.loop-place.place in
     let long : length css ≡ length c.args.prepared.moves.now = length_cells c.args.prepared.active.now c.args.prepared.steps.now c.args.prepared.moves.now in

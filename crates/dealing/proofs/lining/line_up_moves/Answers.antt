@@ -6,18 +6,18 @@ use Rattle.dealing.proofs.Lined.{lined_more, lined_short, lane_room, rest_room, 
 use Rattle.dealing.proofs.lining.line_up_moves.Goals as goal
 
 pub line_up_lane-end-requires : goal.line_up_lane-end-requires
-line_up_lane-end-requires c = record { few = c.requires.few; room = omega (arith, lane_room c.args.lane_of_lem.now c.loop-q.q, c.loop-q.invariant.0) }
+line_up_lane-end-requires c = record { few = c.requires.few; room = omega (arith, lane_room c.args.lane_of.now c.loop-q.q, c.loop-q.invariant.0) }
 
 pub new_row-requires : goal.new_row-requires
 new_row-requires c =
     record {
-      first = omega (arith, lined_short c.args.lane_of_lem.now c.loop-q.q, c.loop-q.invariant.0);
-      end = omega (arith, lane_room c.args.lane_of_lem.now c.loop-q.q, c.loop-q.invariant.0, c.line_up_lane-end.ensures.end);
+      first = omega (arith, lined_short c.args.lane_of.now c.loop-q.q, c.loop-q.invariant.0);
+      end = omega (arith, lane_room c.args.lane_of.now c.loop-q.q, c.loop-q.invariant.0, c.line_up_lane-end.ensures.end);
     }
 
 pub loop-q-preserved : goal.loop-q-preserved
 loop-q-preserved c =
-    let ls = c.args.lane_of_lem.now in
+    let ls = c.args.lane_of.now in
     let more = lined_more ls c.loop-q.q in (
       omega (arith, c.line_up_lane-end.ensures.end, c.loop-q.invariant.0, ap length more, length-append (lined ls (range_with_len 1 c.loop-q.q)) (places_from 0 (c.loop-q.q + 1) ls)),
       c.line_up_lane-end.ensures.lined ∙ ap (λ (l : List ℕ). l ++ places_from 0 (c.loop-q.q + 1) ls) c.loop-q.invariant.1 ∙ sym more,
@@ -28,18 +28,18 @@ loop-q-preserved c =
     )
 
 pub line_up_lane-end-requires-2 : goal.line_up_lane-end-requires-2
-line_up_lane-end-requires-2 c = record { few = c.requires.few; room = omega (arith, rest_room c.args.lane_of_lem.now c.loop-q.q, c.loop-q.invariant.0) }
+line_up_lane-end-requires-2 c = record { few = c.requires.few; room = omega (arith, rest_room c.args.lane_of.now c.loop-q.q, c.loop-q.invariant.0) }
 
 pub new_row-requires-2 : goal.new_row-requires-2
 new_row-requires-2 c =
     record {
-      first = omega (arith, lined_short c.args.lane_of_lem.now c.loop-q.q, c.loop-q.invariant.0);
-      end = omega (arith, rest_room c.args.lane_of_lem.now c.loop-q.q, c.loop-q.invariant.0, c.line_up_lane-end-2.ensures.end);
+      first = omega (arith, lined_short c.args.lane_of.now c.loop-q.q, c.loop-q.invariant.0);
+      end = omega (arith, rest_room c.args.lane_of.now c.loop-q.q, c.loop-q.invariant.0, c.line_up_lane-end-2.ensures.end);
     }
 
 pub returns : goal.returns
 returns c =
-    let ls = c.args.lane_of_lem.now in
+    let ls = c.args.lane_of.now in
     let e : c.loop-q.q ≡ c.args.queues = omega arith in
     let at : c.loop-q.at ≡ length (lined ls (range_with_len 1 c.args.queues)) = rw e at c.loop-q.invariant.0 in
     let front = rw e at c.loop-q.invariant.1 in

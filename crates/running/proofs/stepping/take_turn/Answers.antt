@@ -5,8 +5,8 @@ use Rattle.running.specs.Run.{script_of}
 use Rattle.running.proofs.Turned.{outcome_there, turn_done, turn_failed}
 use Rattle.running.proofs.stepping.take_turn.Goals as goal
 
-pub overflow-add-place : goal.overflow-add-place
-overflow-add-place g c = omega (arith, c.requires.left, c.requires.few)
+pub overflow_add-place : goal.overflow_add-place
+overflow_add-place g c = omega (arith, c.requires.left, c.requires.few)
 
 pub bounds-outcomes-due : goal.bounds-outcomes-due
 bounds-outcomes-due g c =

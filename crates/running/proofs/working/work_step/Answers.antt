@@ -7,7 +7,7 @@ use Rattle.running.proofs.working.work_step.Goals as goal
 
 pub unreachable-requires : goal.unreachable-requires
 unreachable-requires g c =
-    held_there (g.B.Board.values c.args.board.now) c.from-cell.result (refusal_number c.in-default.field-0) (omega (arith, c.requires.a_cell)) c.in-default.ensures
+    held_there (g.B.Board.values c.args.board.now) c.from-cell.result (refusal_number c.in_default.field-0) (omega (arith, c.requires.a_cell)) c.in_default.ensures
 
 pub returns-else-writes : goal.returns-else-writes
 returns-else-writes g c =

@@ -8,11 +8,11 @@ pub returns : goal.returns
 returns g c =
     let l = lists c.args.values.now c.args.moves.now c.args.steps.now c.args.choices.now in
     let big : Roomy l = record { values = omega arith; moves = omega arith; steps = omega arith; choices = omega arith } in
-    let top = c.in-ok-size.ensures in
-    let all = c.in-ok-counts.ensures in
+    let top = c.in_ok-size.ensures in
+    let all = c.in_ok-counts.ensures in
     let kept = c.read_body.auto in
     whole_read g.K.Kind.rules g.K.Kind.rows c.args.sheet.now l
-    c.in-ok-counts.counts c.in-ok-size.size c.in-ok-size.rows (here c.read_head.new.reader) c.read_body.new.moves c.read_body.new.steps c.read_body.new.choices
+    c.in_ok-counts.counts c.in_ok-size.size c.in_ok-size.rows (here c.read_head.new.reader) c.read_body.new.moves c.read_body.new.steps c.read_body.new.choices
     big (omega arith)
     (top.answer ∙ ap (head g.K.Kind.rows.letter) c.new-reader.ensures)
     all.answer

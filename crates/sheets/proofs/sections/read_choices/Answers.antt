@@ -10,11 +10,11 @@ use Rattle.sheets.proofs.sections.read_choices.Goals as goal
 pub loop-i-init : goal.loop-i-init
 loop-i-init c = begun (listing (choice_line c.args.moves)) c.args.count [] (here c.args.reader.now)
 
-pub returns-in-err-choices : goal.returns-in-err-choices
-returns-in-err-choices c =
+pub returns-in_err-choices : goal.returns-in_err-choices
+returns-in_err-choices c =
     let p = err_from_is_err_and c.from_residual.result c.from_residual.ensures.1 in
     rw (p.1, p.2) (sym (refused c.loop-i.invariant _ (omega arith) (unlisted (choice_line c.args.moves) (take c.loop-i.i c.loop-i.choices) (here c.loop-i.reader) _
-    (placed (choice_line c.args.moves) (here c.loop-i.reader) _ c.line-line.result c.choice_line.result (Err _) c.line-line.ensures c.in-err-choices.ensures c.choice_line.ensures))))
+    (placed (choice_line c.args.moves) (here c.loop-i.reader) _ c.line-line.result c.choice_line.result (Err _) c.line-line.ensures c.in_err-choices.ensures c.choice_line.ensures))))
 
 pub loop-i-preserved : goal.loop-i-preserved
 loop-i-preserved c =
@@ -23,7 +23,7 @@ loop-i-preserved c =
     let fits : i < length c.loop-i.choices = omega (arith, c.loop-i.auto.choices, c.requires) in
     more c.loop-i.invariant (c.args.count - (i + 1)) _ _ n
     (listed (choice_line c.args.moves) (take i c.loop-i.choices) (here c.loop-i.reader) _ _ _ (take_more_set c.loop-i.choices i _ fits)
-    (placed (choice_line c.args.moves) (here c.loop-i.reader) _ c.line-line.result c.choice_line.result (Ok _) c.line-line.ensures c.in-ok-choices.ensures c.choice_line.ensures))
+    (placed (choice_line c.args.moves) (here c.loop-i.reader) _ c.line-line.result c.choice_line.result (Ok _) c.line-line.ensures c.in_ok-choices.ensures c.choice_line.ensures))
 
 pub returns : goal.returns
 returns c =

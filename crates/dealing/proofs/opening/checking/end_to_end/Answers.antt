@@ -16,8 +16,8 @@ returns-then-not-follows c =
     test_no (standing c.args.count at) (begins_at at (get_or ms i no_move)) (standing c.args.count (at + (get_or ms i no_move).count) (drop (i + 1) ms)) _ ms i no_move (omega arith) refl c.loop-found.invariant.0
     (sym c.if-not-follows.ensures)
 
-pub overflow-add-at : goal.overflow-add-at
-overflow-add-at c = omega (arith, c.from-at.ensures, (begins c.loop-found.at (get_or c.args.moves.now c.loop-found.found-index no_move) (sym c.if-not-follows.ensures)).2, c.loop-found.invariant.1)
+pub overflow_add-at : goal.overflow_add-at
+overflow_add-at c = omega (arith, c.from-at.ensures, (begins c.loop-found.at (get_or c.args.moves.now c.loop-found.found-index no_move) (sym c.if-not-follows.ensures)).2, c.loop-found.invariant.1)
 
 pub loop-found-preserved : goal.loop-found-preserved
 loop-found-preserved c =

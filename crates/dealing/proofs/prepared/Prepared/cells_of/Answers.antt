@@ -2,8 +2,8 @@ use Rattle.std.proofs.Common.{length, arith}
 use Rattle.dealing.proofs.Naming.{part_within}
 use Rattle.dealing.proofs.prepared.Prepared.cells_of.Goals as goal
 
-pub invariant-of-result : goal.invariant-of-result
-invariant-of-result c = (
+pub invariant_of-result : goal.invariant_of-result
+invariant_of-result c = (
   c.args.self.few,
   (
     part_within (length c.args.self.active.now) c.from-first.result c.from.result c.args.self.steps.now

@@ -4,7 +4,7 @@ use Rattle.desk.proofs.lists.laying.empty_cells.Goals as goal
 
 pub loop-i-preserved : goal.loop-i-preserved
 loop-i-preserved g c =
-    c.in-ok-push.ensures.items
+    c.in_ok-push.ensures.items
     ∙ (λ j. c.loop-i.invariant j ++ c.unnamed.ensures j ∷ [])
     ∙ replicate_more c.loop-i.-i g.K.Kind.rows.unnamed
 

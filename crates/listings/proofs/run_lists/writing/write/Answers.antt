@@ -29,4 +29,4 @@ returns g c =
     (rw (c.part.ensures, c.from-queues.ensures, c.queues.ensures) at c.list_queues.ensures)
     (rw c.lane_moves.ensures at c.list_rest.ensures))
     (rw (c.part-2.ensures, c.from-moves.ensures, c.moves.ensures) at c.list_outcomes.ensures))
-    (rw (c.part-3.ensures, c.from_cells.ensures, c.cells.ensures) at c.list_changes.ensures)
+    (rw (c.part-3.ensures, c.from-cells.ensures, c.cells.ensures) at c.list_changes.ensures)
