@@ -59,7 +59,7 @@ loop-place-preserved c =
             queued_as rs css _ _ _ _ _ _ _ w.made-is (both _ _ _ _ (w.free_queue-is ∙ sym w.in-Some-free_queue.is) w.queue_of-is) w.lane_of-is
                 (queued_old rs css i made qs ls cs (omega arith) (omega arith) cells c.loop-place.invariant.2 0 k.0 k.1 (omega arith) w.in-Some-free_queue.queue w.in-Some-free_queue.is),
           )
-      | goal.in-Nothing+in-None-free-queue w ↦
+      | goal.in-Nothing+in-None-free_queue w ↦
           let k = key_some _ _ _ w.in-Nothing.ensures.touched in (
             omega (arith, w.made-is),
             ap length w.queue_of-is ∙ c.loop-place.invariant.1,

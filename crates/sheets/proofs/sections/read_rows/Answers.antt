@@ -15,7 +15,7 @@ returns-in_err-row g c =
 
 pub loop-i-preserved : goal.loop-i-preserved
 loop-i-preserved g c =
-    let i = c.loop-i.-i in
+    let i = c.loop-i._i in
     let f = row_line g.K.Kind.rows c.args.cells c.loop-i.low in
     let n : c.args.count - i ≡ suc (c.args.count - (i + 1)) = omega arith in
     more c.loop-i.invariant (c.args.count - (i + 1)) _ _ n
@@ -25,5 +25,5 @@ loop-i-preserved g c =
 
 pub returns : goal.returns
 returns g c =
-    let z : c.args.count - c.loop-i.-i ≡ 0 = omega arith in
+    let z : c.args.count - c.loop-i._i ≡ 0 = omega arith in
     sym (rows_done (done c.loop-i.invariant z))

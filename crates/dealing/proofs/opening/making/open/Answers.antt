@@ -43,7 +43,12 @@ pub invariant_of-result : goal.invariant_of-result
 invariant_of-result g c =
     let a = accepted g.K.Kind.rules (listed c.args.batch) c.have_room-roomy.result c.count.result (sym c.in_ok-check.ensures) in
     let shape = shape_of (listed c.args.batch) a.shape in
-    ((dealable g.K.Kind.rules (listed c.args.batch) _ _ a).cells, (shape.moves, (shape.steps, (c.fill-queues.ensures.few, tt))))
+    record {
+      few_cells = (dealable g.K.Kind.rules (listed c.args.batch) _ _ a).cells;
+      few_moves = shape.moves;
+      few_steps = shape.steps;
+      few_queues = c.fill-queues.ensures.few;
+    }
 
 pub returns : goal.returns
 returns g c =
