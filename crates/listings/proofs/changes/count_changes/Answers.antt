@@ -3,7 +3,7 @@ use Rattle.std.proofs.lemmas.List.{at_drop_all}
 use Rattle.listings.specs.Listings.{change_lines}
 use Rattle.listings.proofs.Changed.{count_more}
 use Rattle.listings.proofs.changes.count_changes.Goals as goal
-use Rattle.listings.proofs.changes.count_changes.Goals.{in-Some, in-default}
+use Rattle.listings.proofs.changes.count_changes.Goals.{in-Some, in_default}
 
 pub loop-cell-preserved : goal.loop-cell-preserved
 loop-cell-preserved g c =
@@ -16,7 +16,7 @@ loop-cell-preserved g c =
     let more = λ (o : Option g.row.K-Value.Denot). count_more rows equals closing values k v (omega arith) c.index-values-cell.is o c.loop-cell.count (length (change_lines rows equals closing 0 values)) in
     elim c.match-change_of.branch [
       | in-Some w ↦ rw w.count-is (more (Some w.in-Some.field-0) w.in-Some.ensures c.loop-cell.invariant.0, omega (arith, c.loop-cell.invariant.1))
-      | in-default w ↦ rw w.count-is (omega (arith, more None w.in_default.ensures c.loop-cell.invariant.0), omega (arith, c.loop-cell.invariant.1))
+      | in_default w ↦ rw w.count-is (omega (arith, more None w.in_default.ensures c.loop-cell.invariant.0), omega (arith, c.loop-cell.invariant.1))
     ]
 
 pub returns : goal.returns

@@ -6,9 +6,9 @@ pub loop-i-preserved : goal.loop-i-preserved
 loop-i-preserved g c =
     c.in_ok-push.ensures.items
     ∙ (λ j. c.loop-i.invariant j ++ c.unnamed.ensures j ∷ [])
-    ∙ replicate_more c.loop-i.-i g.K.Kind.rows.unnamed
+    ∙ replicate_more c.loop-i._i g.K.Kind.rows.unnamed
 
 pub returns : goal.returns
 returns g c =
-    let all : c.loop-i.-i ≡ 1024 = omega arith in
+    let all : c.loop-i._i ≡ 1024 = omega arith in
     c.loop-i.invariant ∙ ap (λ n. replicate n g.K.Kind.rows.unnamed) all
