@@ -1,5 +1,5 @@
 -- What a call does to the lists of a run, and what it answers, for lists of any length and content.
-use Rattle.std.specs.Prelude.{◌≡◌, ℕ, zero, suc, ◌+◌, Bool, false, cond, ◌&&◌, ◌||◌, List, length, take, drop, set, Some, None, Option, ◌==◌, nat_le, nat_lt, slice_index_or, slice_set}
+use Rattle.std.specs.Prelude.{◌≡◌, ℕ, zero, suc, ◌+◌, Bool, false, cond, ◌&&◌, ◌||◌, List, length, take, drop, Some, None, Option, ◌==◌, nat_le, nat_lt, slice_index_or, slice_set}
 use Rattle.std.specs.List.{slice_get}
 use Rattle.yard.specs.declared.batch.Step.{Step}
 use Rattle.yard.specs.declared.run.LaneRow.{LaneRow}

@@ -1,5 +1,5 @@
 -- The lists of a run: those that no call alters, those that calls alter, and the rows of lanes.
-use Rattle.std.specs.Prelude.{ℕ, ◌+◌, ◌-◌, Bool, List, length, nat_le, nat_lt, slice_index, slice_index_or, slice_range}
+use Rattle.std.specs.Prelude.{ℕ, ◌+◌, Bool, List, length, nat_le, nat_lt, slice_index, slice_index_or, slice_range}
 use Rattle.yard.specs.declared.batch.Step.{Step}
 use Rattle.yard.specs.declared.batch.Move.{Move}
 use Rattle.yard.specs.declared.run.LaneRow.{LaneRow}

@@ -1,5 +1,5 @@
 -- What a step makes of the values of a board, what it saves, and how steps are set back.
-use Rattle.std.specs.Prelude.{ℕ, zero, suc, ◌+◌, cond, List, set, Some, None, Option, slice_index_or, slice_set}
+use Rattle.std.specs.Prelude.{ℕ, zero, suc, ◌+◌, cond, List, Some, None, Option, slice_index_or, slice_set}
 use Rattle.std.specs.List.{slice_get}
 use Rattle.yard.specs.declared.batch.Step.{Step}
 use Rattle.yard.specs.Moves.{writes}

@@ -10,7 +10,7 @@ no_move = record { label = 0; first = 0; count = 0 }
 abbrev no_step : Step
 no_step = record { letter = 32; cell = 0; number = 0 }
 
-pub record Laid_out {V : Type 0} (unnamed : V) (d : Desk V) : Type 0 where
+pub record LaidOut {V : Type 0} (unnamed : V) (d : Desk V) : Type 0 where
   pub values : vec_items d.values ≡ replicate 1024 unnamed
   pub moves : vec_items d.moves ≡ replicate 256 no_move
   pub steps : vec_items d.steps ≡ replicate 1024 no_step

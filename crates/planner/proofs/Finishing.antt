@@ -1,5 +1,5 @@
 -- A run that was opened, worked through and listed is what planning its batch gives.
-use Rattle.std.proofs.Common.{◌≡◌, ℕ, ◌<◌, ◌≤◌, Bool, true, List, [], map, length, Ok, Err, Result, sym, refl, ap, ◌∙◌, subst, arith}
+use Rattle.std.proofs.Common.{◌≡◌, ℕ, ◌≤◌, Bool, List, map, length, Ok, Err, Result, sym, refl, ap, ◌∙◌, subst, arith}
 use Rattle.std.specs.List.{range_with_len}
 use Rattle.yard.specs.declared.refusal.Refusal.{Refusal}
 use Rattle.yard.specs.declared.run.Answer.{Answer}
@@ -16,12 +16,12 @@ use Rattle.books.specs.Scripts.{Script, script, State, state}
 use Rattle.books.specs.Calls.{stage}
 use Rattle.books.specs.Law.{Order, NoneLeft, serial_from}
 use Rattle.books.specs.Through.{all_through}
-use Rattle.books.specs.Whole.{Stand, stand}
+use Rattle.books.specs.Whole.{Stand}
 use Rattle.books.proofs.Through.{works_through}
 use Rattle.listings.specs.Laying.{Answered, listed_as}
-use Rattle.listings.specs.Listings.{Run, list_into}
+use Rattle.listings.specs.Listings.{list_into}
 use Rattle.running.specs.Performed.{Performed}
-use Rattle.planner.specs.Plan.{empty_lists, worked_run, listed_run, planned_batch}
+use Rattle.planner.specs.Plan.{empty_lists, listed_run, planned_batch}
 
 -- calls with a place for each answer are worked
 pub worked_all : {V : Type 0} (R : Rules V) (S : Script) (calls : List Call) (start : State V) (before : List (Answer V)) (final : State V) (after : List (Answer V)) (r : Result (Unit {0}) Refusal) →

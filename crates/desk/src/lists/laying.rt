@@ -1,7 +1,7 @@
 //! Laying out a desk.
 
 ghost use Rattle.std.specs.Prelude.{◌≡◌, replicate, IfOk};
-ghost use Rattle.desk.specs.Empty.{Laid_out};
+ghost use Rattle.desk.specs.Empty.{LaidOut};
 
 use super::Desk;
 use sheets::read::{CELLS, CHOICES, MOVES, STEPS};
@@ -11,7 +11,7 @@ use yard::kind::Kind;
 
 /// An empty desk for a kind, or want of memory.
 pub fn lay_out<K: Kind>(heap: Global) -> Result<Desk<K::Value>, AllocError>
-    ensures { IfOk result (Laid_out K.Kind.rows.unnamed) }
+    ensures { IfOk result (LaidOut K.Kind.rows.unnamed) }
 {
     let values = empty_cells::<K>(heap)?;
     let moves = vec![in heap; Move::NONE; MOVES]?;
