@@ -1,6 +1,6 @@
 //! A board over cells that the caller lends: what is set on the board stands in the caller's list.
 
-ghost use Rattle.std.specs.Prelude.{◌≡◌, set, slice_set};
+ghost use Rattle.std.specs.Prelude.{◌≡◌, slice_set};
 ghost use Rattle.yard.specs.Cells.{value_at, cell_there};
 ghost use Rattle.yard.specs.Told.{told};
 ghost use Rattle.boards.specs.Live.{only_lent, live_values, live_around};

@@ -1,6 +1,6 @@
 //! A board that keeps its changes apart: a cell's value is its change where one is set, else the base value under it.
 
-ghost use Rattle.std.specs.Prelude.{◌≡◌, min, length, take, drop, set, if◌then◌else◌, nat_le, slice_set};
+ghost use Rattle.std.specs.Prelude.{◌≡◌, min, length, take, drop, if◌then◌else◌, nat_le, slice_set};
 ghost use Rattle.yard.specs.Cells.{value_at, cell_there};
 ghost use Rattle.yard.specs.Told.{told, gives, refuses};
 ghost use Rattle.boards.specs.Shadow.{shown, cleared, beneath, shadow_values, shadow_changes, shadow_around};

@@ -1,6 +1,6 @@
 //! Marks on clusters while a move is examined: they are off again when the examination ends, whichever way it ends.
 
-ghost use Rattle.std.specs.Prelude.{◌≡◌, length, set, replicate, ◌==◌, slice_index, slice_set};
+ghost use Rattle.std.specs.Prelude.{◌≡◌, length, replicate, ◌==◌, slice_index, slice_set};
 
 /// The lent marks, one for each cell. Letting go of this clears them.
 pub struct Marked<'a> {

@@ -1,6 +1,6 @@
 //! Allocate, the last stage: the lane of each move.
 
-ghost use Rattle.std.specs.Prelude.{◌≡◌, ◌<◌, ◌≤◌, length};
+ghost use Rattle.std.specs.Prelude.{◌≡◌, ◌≤◌, length};
 ghost use Rattle.clusters.specs.Roots.{roots_of};
 ghost use Rattle.dealing.specs.Lanes.{all_at, allocated, dealt_of};
 ghost use Rattle.dealing.specs.Prepared.{cells_in, cell_count, all_cells, move_count};

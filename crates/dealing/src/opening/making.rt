@@ -1,6 +1,6 @@
 //! Opening a run: the batch is checked and dealt, and the lists of the run are filled.
 
-ghost use Rattle.std.specs.Prelude.{◌≡◌, ◌<◌, ◌≤◌, length, replicate};
+ghost use Rattle.std.specs.Prelude.{◌≡◌, ◌≤◌, length, replicate};
 ghost use Rattle.yard.specs.declared.run.Outcome.TheVariants.{NotEnded};
 ghost use Rattle.yard.specs.Batches.{listed};
 ghost use Rattle.dealing.specs.Dealable.{Dealable, Roomy};
