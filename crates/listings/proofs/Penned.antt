@@ -1,4 +1,4 @@
--- What writing adds up to: one text after another, a text only counted, and a text that the paper has room for.
+-- What writing adds up to: one text after another, a text only counted, and a text that the page has room for.
 use Rattle.std.proofs.Common.{◌≡◌, ℕ, ◌+◌, ◌-◌, ◌/◌, ◌%◌, ◌^◌, ◌<◌, ◌≤◌, min, List, [], ◌∷◌, ◌++◌, length, get_or, drop, decimal, sym, refl, ap, ◌∙◌, mod-eq_of_lt, arith}
 use Rattle.std.proofs.lemmas.Fmt.{decimal_digit, decimal_step}
 use Rattle.std.proofs.lemmas.List.{append_assoc, drop_more, drop_all, length_push, set_at}
@@ -47,25 +47,25 @@ wrote_lent : (bs : List ℕ) (s : Penned) → (wrote bs s).lent ≡ s.lent
 wrote_lent [] s = refl
 wrote_lent (b ∷ bs) s = wrote_lent bs (put_on b s)
 
--- the paper is still that of the list that a fresh pen was given
-pub still_lent : (text paper : List ℕ) (lent : ℕ) {s t : Penned} → s ≡ standing paper 0 lent → t ≡ wrote text s → t.lent ≡ lent
-still_lent text paper lent {s} e d = ap (λ (u : Penned). u.lent) d ∙ wrote_lent text s ∙ ap (λ (u : Penned). u.lent) e
+-- the page is still that of the list that a fresh pen was given
+pub still_lent : (text page : List ℕ) (lent : ℕ) {s t : Penned} → s ≡ standing page 0 lent → t ≡ wrote text s → t.lent ≡ lent
+still_lent text page lent {s} e d = ap (λ (u : Penned). u.lent) d ∙ wrote_lent text s ∙ ap (λ (u : Penned). u.lent) e
 
 -- the place of the next byte, after a text
 wrote_at : (bs : List ℕ) (s : Penned) → s.at ≤ 2 ^ 64 - 1 → (wrote bs s).at ≡ min (s.at + length bs) (2 ^ 64 - 1)
 wrote_at [] s h = omega arith
 wrote_at (b ∷ bs) s h = wrote_at bs (put_on b s) (omega arith) ∙ omega arith
 
--- a text that goes to the paper where p ends
-wrote_paper : (bs p q : List ℕ) (lent : ℕ) → length bs ≤ length q → length p + length q ≤ 2 ^ 64 - 1 → (wrote bs (standing (p ++ q) (length p) lent)).paper ≡ p ++ laid bs q
-wrote_paper [] p q lent h room = refl
-wrote_paper (b ∷ bs) p [] lent h room = absurd (omega arith)
-wrote_paper (b ∷ bs) p (y ∷ q) lent h room =
+-- a text that goes to the page where p ends
+wrote_page : (bs p q : List ℕ) (lent : ℕ) → length bs ≤ length q → length p + length q ≤ 2 ^ 64 - 1 → (wrote bs (standing (p ++ q) (length p) lent)).page ≡ p ++ laid bs q
+wrote_page [] p q lent h room = refl
+wrote_page (b ∷ bs) p [] lent h room = absurd (omega arith)
+wrote_page (b ∷ bs) p (y ∷ q) lent h room =
     let put = set_at p y q b (length p) refl ∙ sym (append_assoc p (b ∷ []) q) in
     let further : min (length p + 1) (2 ^ 64 - 1) ≡ length (p ++ b ∷ []) = omega (arith, length_push p b) in
-    ap (λ (paper : List ℕ). (wrote bs (standing paper (min (length p + 1) (2 ^ 64 - 1)) lent)).paper) put
-    ∙ ap (λ (at : ℕ). (wrote bs (standing ((p ++ b ∷ []) ++ q) at lent)).paper) further
-    ∙ wrote_paper bs (p ++ b ∷ []) q lent (omega arith) (omega (arith, length_push p b)) ∙ append_assoc p (b ∷ []) (laid bs q)
+    ap (λ (page : List ℕ). (wrote bs (standing page (min (length p + 1) (2 ^ 64 - 1)) lent)).page) put
+    ∙ ap (λ (at : ℕ). (wrote bs (standing ((p ++ b ∷ []) ++ q) at lent)).page) further
+    ∙ wrote_page bs (p ++ b ∷ []) q lent (omega arith) (omega (arith, length_push p b)) ∙ append_assoc p (b ∷ []) (laid bs q)
 
 -- a text that a first pen counted: n bytes
 module _ (text list : List ℕ) (short : length list < 2 ^ 63) (s₀ s : Penned) (n : ℕ) (begun : s₀.at ≡ 0) (counted : s ≡ wrote text s₀) (count : n ≡ s.at) where
@@ -77,11 +77,11 @@ module _ (text list : List ℕ) (short : length list < 2 ^ 63) (s₀ s : Penned)
   laid_not h = rw (lt-leb (length text) (length list) (omega (arith, bytes)))
 
   -- it is not, and a second pen wrote it to the list: m bytes
-  pub laid_whole : (t₀ t : Penned) (m lent : ℕ) (after : List ℕ) → n ≤ length list → t₀ ≡ standing list 0 lent → t ≡ wrote text t₀ → m ≡ t.at → after ≡ t.paper
+  pub laid_whole : (t₀ t : Penned) (m lent : ℕ) (after : List ℕ) → n ≤ length list → t₀ ≡ standing list 0 lent → t ≡ wrote text t₀ → m ≡ t.at → after ≡ t.page
       → listed_as (gives m) after ≡ laid_into text list
-  laid_whole t₀ t m lent after h fresh written count' paper =
+  laid_whole t₀ t m lent after h fresh written count' page =
       let room : length text ≤ length list = omega (arith, bytes) in
       let whole = written ∙ ap (wrote text) fresh in
       let m_is : m ≡ length text = count' ∙ ap (λ (u : Penned). u.at) whole ∙ wrote_at text (standing list 0 lent) (omega arith) ∙ omega arith in
-      let after_is : after ≡ laid text list = paper ∙ ap (λ (u : Penned). u.paper) whole ∙ wrote_paper text [] list lent room (omega arith) in
+      let after_is : after ≡ laid text list = page ∙ ap (λ (u : Penned). u.page) whole ∙ wrote_page text [] list lent room (omega arith) in
       rw (m_is, after_is, le-leb (length text) (length list) room)

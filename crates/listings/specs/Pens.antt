@@ -1,21 +1,21 @@
--- What a pen has written: its paper, the place of the next byte, and whose list the paper is.
+-- What a pen has written: its page, the place of the next byte, and whose list the page is.
 use Rattle.std.specs.Prelude.{ℕ, ◌+◌, ◌-◌, ◌^◌, min, List, [], ◌∷◌, slice_set}
 use Rattle.listings.specs.declared.pen.Pen.{Pen}
 
 pub record Penned : Type 0 where
-  pub paper : List ℕ
+  pub page : List ℕ
   pub at : ℕ
   pub lent : ℕ
 
 abbrev pub standing : List ℕ → ℕ → ℕ → Penned
-standing paper at lent = record { paper = paper; at = at; lent = lent }
+standing page at lent = record { page = page; at = at; lent = lent }
 
 abbrev pub penned : Pen → Penned
-penned p = standing p.paper.now p.at p.paper.ghost_name
+penned p = standing p.page.now p.at p.page.ghost_name
 
--- one byte more: past the paper it is only counted, as far as a count goes
+-- one byte more: past the page it is only counted, as far as a count goes
 abbrev pub put_on : ℕ → Penned → Penned
-put_on b s = standing (slice_set s.paper s.at b) (min (s.at + 1) (2 ^ 64 - 1)) s.lent
+put_on b s = standing (slice_set s.page s.at b) (min (s.at + 1) (2 ^ 64 - 1)) s.lent
 
 abbrev pub wrote : List ℕ → Penned → Penned
 wrote [] s = s

@@ -4,25 +4,25 @@ ghost use Rattle.std.specs.Prelude.{◌≡◌, [], ◌∷◌, decimal};
 ghost use Rattle.listings.specs.Lines.{spaced};
 ghost use Rattle.listings.specs.Pens.{standing, penned, wrote};
 
-/// The next byte goes to `at`, if the paper has that place. Bytes past the paper are only counted.
+/// The next byte goes to `at`, if the page has that place. Bytes past the page are only counted.
 #[derive(Drop)]
 pub(crate) struct Pen<'a> {
-    paper: &'a mut [u8],
+    page: &'a mut [u8],
     at: usize,
 }
 
 impl<'a> Pen<'a> {
-    pub(crate) fn over(paper: &'a mut [u8]) -> Pen<'a>
-        ensures { penned result ≡ standing paper.old 0 paper.entry.ghost_name }
+    pub(crate) fn over(page: &'a mut [u8]) -> Pen<'a>
+        ensures { penned result ≡ standing page.old 0 page.entry.ghost_name }
     {
-        Pen { paper, at: 0 }
+        Pen { page, at: 0 }
     }
 
     pub(crate) fn put(&mut self, byte: u8)
         ensures { penned self.new ≡ wrote (byte ∷ []) (penned self.old) }
     {
-        if self.at < self.paper.len() {
-            self.paper[self.at] = byte;
+        if self.at < self.page.len() {
+            self.page[self.at] = byte;
         }
         self.at = self.at.saturating_add(1);
     }

@@ -6,5 +6,5 @@ pub returns : goal.returns
 returns c =
     elim c.if-self.branch [
       | then-self w ↦ rw (c.saturating_add-self.ensures, w.self-is)
-      | else-self w ↦ rw (c.saturating_add-self.ensures, w.self-is, set_past c.args.self.now.paper.now c.args.self.now.at c.args.byte w.if-self.false)
+      | else-self w ↦ rw (c.saturating_add-self.ensures, w.self-is, set_past c.args.self.now.page.now c.args.self.now.at c.args.byte w.if-self.false)
     ]
