@@ -11,7 +11,7 @@ use crate::rooting::root;
 use crate::touched::Touched;
 
 /// Allocate: takes the moves in batch order and writes the lane of each. How many queues were made is returned.
-pub fn allocate(parents: &[u16], prepared: Prepared, lane_of: &mut [u16]) -> usize
+pub(crate) fn allocate(parents: &[u16], prepared: Prepared, lane_of: &mut [u16]) -> usize
     requires long { length parents.now ≡ length prepared.active.now }
     requires room { length lane_of.old ≡ move_count prepared }
     ensures dealt { dealt_of lane_of.new result ≡ allocated (roots_of parents.now) (all_cells prepared.entry) }

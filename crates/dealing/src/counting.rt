@@ -6,7 +6,7 @@ ghost use Rattle.dealing.specs.Examining.{AllBelow};
 ghost use Rattle.dealing.specs.Stages.{grown};
 
 /// The size of each special cluster that is hit grows by 1.
-pub fn grow(sizes: &mut [u16], hit: &[bool])
+pub(crate) fn grow(sizes: &mut [u16], hit: &[bool])
     requires same { length hit.now ≡ length sizes.old }
     requires room { AllBelow 65535 sizes.old }
     ensures { sizes.new ≡ grown hit.now sizes.old }
@@ -19,7 +19,7 @@ pub fn grow(sizes: &mut [u16], hit: &[bool])
 }
 
 /// The place of a pair in the pair counts.
-pub fn pair_place(i: usize, j: usize) -> usize
+pub(crate) fn pair_place(i: usize, j: usize) -> usize
     requires i { i < 64 }
     requires j { j < 64 }
     ensures { result ≡ pair_place i j }
@@ -28,7 +28,7 @@ pub fn pair_place(i: usize, j: usize) -> usize
 }
 
 /// The count of each two special clusters that are hit grows by 1.
-pub fn count_pairs(pairs: &mut [u16], hit: &[bool])
+pub(crate) fn count_pairs(pairs: &mut [u16], hit: &[bool])
     requires few { length hit.now ≤ 64 }
     requires long { length pairs.old ≡ 4096 }
     requires room { (a b : ℕ) → a < b → b < length hit.now → pair_count pairs.old a b < 65535 }

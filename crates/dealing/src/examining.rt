@@ -11,7 +11,7 @@ use crate::rooting::root;
 use clusters::marks::Marked;
 
 /// Marks the roots of the cells.
-pub fn mark_roots(marked: &mut Marked, parents: &[u16], cells: ActiveCells)
+pub(crate) fn mark_roots(marked: &mut Marked, parents: &[u16], cells: ActiveCells)
     requires long { length parents.now ≡ cell_count cells }
     requires clear { marks_in marked.old ≡ replicate (length parents.now) 0 }
     ensures marks { Marks (roots_of parents.now) (cells_in cells.entry) (marks_in marked.new) }
@@ -27,7 +27,7 @@ pub fn mark_roots(marked: &mut Marked, parents: &[u16], cells: ActiveCells)
 }
 
 /// Which special clusters are marked, and how many. Each is known by one of its cells.
-pub fn hits(marked: &Marked, parents: &[u16], special: &[u16], hit: &mut [bool]) -> usize
+pub(crate) fn hits(marked: &Marked, parents: &[u16], special: &[u16], hit: &mut [bool]) -> usize
     requires special { AllBelow (length parents.now) special.now }
     requires room { length hit.old ≡ length special.now }
     ensures which { hit.new ≡ seen (marks_in marked.now) (roots_of parents.now) special.now }

@@ -13,7 +13,7 @@ use crate::rooting::join_cells;
 use clusters::marks::Marked;
 
 /// Fuse: takes all moves in batch order. How many were skipped is returned.
-pub fn fuse(
+pub(crate) fn fuse(
     parents: &mut [u16],
     marks: &mut [u8],
     prepared: Prepared,

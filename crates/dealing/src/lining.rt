@@ -7,7 +7,12 @@ ghost use Rattle.dealing.specs.Lanes.{places_from, dealt_of, line_up_of, lane_ro
 use yard::run::LaneRow;
 
 /// Writes the moves of all lanes to the front of the line-up, and the rows of the lanes to the front of theirs.
-pub fn line_up_moves(lane_of: &[u16], queues: usize, line_up: &mut [u16], lanes: &mut [LaneRow])
+pub(crate) fn line_up_moves(
+    lane_of: &[u16],
+    queues: usize,
+    line_up: &mut [u16],
+    lanes: &mut [LaneRow],
+)
     requires few { length lane_of.now ≤ 256 }
     requires queues { queues ≤ 256 }
     requires line_up { 256 ≤ length line_up.old }

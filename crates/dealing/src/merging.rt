@@ -10,7 +10,7 @@ use crate::counting::pair_place;
 use crate::rooting::join_two;
 
 /// Merge: if enough of all moves were skipped, each two special clusters are joined that share enough of theirs. Sizes and counts are those that fuse left.
-pub fn merge(
+pub(crate) fn merge(
     parents: &mut [u16],
     special: &[u16],
     sizes: &[u16],

@@ -10,7 +10,7 @@ use crate::prepared::ActiveCells;
 use clusters::forest::{find, join};
 
 /// The root of a cell.
-pub fn root(parents: &[u16], cell: usize) -> usize
+pub(crate) fn root(parents: &[u16], cell: usize) -> usize
     requires { cell < length parents.now }
     ensures root { result ≡ slice_index (roots_of parents.now) cell }
     ensures within { result < length parents.now }
@@ -19,7 +19,7 @@ pub fn root(parents: &[u16], cell: usize) -> usize
 }
 
 /// Makes every cell a cluster of its own.
-pub fn separate(parents: &mut [u16])
+pub(crate) fn separate(parents: &mut [u16])
     requires { length parents.old ≤ 1024 }
     ensures { roots_of parents.new ≡ range_with_len 0 (length parents.old) }
 {
@@ -29,7 +29,7 @@ pub fn separate(parents: &mut [u16])
 }
 
 /// Makes one cluster of those of two cells.
-pub fn join_two(parents: &mut [u16], one: usize, other: usize)
+pub(crate) fn join_two(parents: &mut [u16], one: usize, other: usize)
     requires one { one < length parents.old }
     requires other { other < length parents.old }
     requires few { length parents.old ≤ 1024 }
@@ -39,7 +39,7 @@ pub fn join_two(parents: &mut [u16], one: usize, other: usize)
 }
 
 /// Joins the cluster of each of the cells with that of `first`.
-pub fn join_with(parents: &mut [u16], first: usize, cells: ActiveCells)
+pub(crate) fn join_with(parents: &mut [u16], first: usize, cells: ActiveCells)
     requires long { length parents.old ≡ cell_count cells }
     requires first { first < length parents.old }
     ensures { roots_of parents.new ≡ joined_with first (cells_in cells.entry) (roots_of parents.old) }
@@ -53,7 +53,7 @@ pub fn join_with(parents: &mut [u16], first: usize, cells: ActiveCells)
 }
 
 /// Makes one cluster of those that the cells are in.
-pub fn join_cells(parents: &mut [u16], cells: ActiveCells)
+pub(crate) fn join_cells(parents: &mut [u16], cells: ActiveCells)
     requires { length parents.old ≡ cell_count cells }
     ensures { roots_of parents.new ≡ joined_cells (cells_in cells.entry) (roots_of parents.old) }
 {

@@ -13,7 +13,7 @@ use crate::rooting::join_with;
 use clusters::marks::Marked;
 
 /// Spot: takes the choices in order. The cells by which the special clusters are known go to the front of `special`; how many there are is returned.
-pub fn spot(
+pub(crate) fn spot(
     parents: &mut [u16],
     marks: &mut [u8],
     prepared: Prepared,

@@ -24,7 +24,7 @@ use yard::kind::Kind;
 use yard::run::LaneRow;
 
 /// Deals a batch with working lists of just the length that is used. They hold 0 afterwards. How many queues were made is returned.
-pub fn deal<K: Kind>(
+pub(crate) fn deal<K: Kind>(
     batch: Batch,
     active: &mut [bool],
     line_up: &mut [u16],

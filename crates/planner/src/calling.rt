@@ -13,7 +13,7 @@ use yard::kind::Kind;
 use yard::run::{Call, LaneRow};
 
 /// Writes the step calls that work the run through: each queue as often as its moves have steps, then the rest list. How many calls there are is returned.
-pub fn write_calls(
+pub(crate) fn write_calls(
     opening: Opening,
     moves: &[Move],
     line_up: &[u16],
@@ -68,6 +68,6 @@ fn call_steps(lane: usize, count: u16, calls: &mut [Call], start: usize) -> usiz
 }
 
 /// Lists that open filled can be written from where there are 2,048 places, and the calls so written are all that work the run through.
-pub fn calls_of_opened_runs<K: Kind>()
+pub(crate) fn calls_of_opened_runs<K: Kind>()
     ensures { CallsOfOpened K.Kind.rules }
 {}

@@ -32,7 +32,7 @@ use yard::run::{Answer, Call, LaneRow, Outcome};
 pub const CALLS: usize = 2048;
 
 /// Plans a sheet of the kind `K`.
-pub fn plan_sheet<K: Kind>(
+pub(crate) fn plan_sheet<K: Kind>(
     sheet: &[u8],
     values: &mut [K::Value],
     changes: &mut [Option<K::Value>],

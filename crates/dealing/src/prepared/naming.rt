@@ -9,7 +9,7 @@ use yard::batch::Step;
 use yard::kind::Kind;
 
 /// Prepare: a cell is active if some step writes it.
-pub fn prepare<K: Kind>(steps: &[Step], active: &mut [bool])
+pub(crate) fn prepare<K: Kind>(steps: &[Step], active: &mut [bool])
     requires { Within (length active.old) steps.now }
     ensures { active.new ≡ active_flags K.Kind.rules (length active.old) steps.now }
 {
@@ -23,7 +23,7 @@ pub fn prepare<K: Kind>(steps: &[Step], active: &mut [bool])
 
 impl<'a, 'b, 'c> Prepared<'a, 'b, 'c> {
     /// The active cells that a move names.
-    pub fn cells_of(self, place: usize) -> ActiveCells<'a, 'b>
+    pub(crate) fn cells_of(self, place: usize) -> ActiveCells<'a, 'b>
         requires { place < move_count self }
         ensures cells { cells_in result ≡ cells_of self.entry place }
         ensures count { cell_count result ≡ length self.entry.active.now }
@@ -40,7 +40,7 @@ impl<'a, 'b, 'c> Prepared<'a, 'b, 'c> {
 
 impl ActiveCells<'_, '_> {
     /// The cell that a step names, if it is active.
-    pub fn counted(self, step: Step) -> Option<usize>
+    pub(crate) fn counted(self, step: Step) -> Option<usize>
         requires { step.cell < cell_count self }
         ensures counted { result ≡ head_of (active_cells self.entry.active.now (step ∷ [])) }
         ensures within { IfSome result (λ cell. cell < cell_count self.entry) }
@@ -50,7 +50,7 @@ impl ActiveCells<'_, '_> {
     }
 
     /// The first of them.
-    pub fn first(self) -> Option<usize>
+    pub(crate) fn first(self) -> Option<usize>
         ensures first { result ≡ head_of (cells_in self.entry) }
         ensures within { IfSome result (λ cell. cell < cell_count self.entry) }
     {
