@@ -22,14 +22,14 @@ module _ {V : Type 0} (R : Rules V) (cells : ℕ) where
   known-take zero ss e = refl
   known-take (suc n) [] e = refl
   known-take (suc n) (s ∷ ss) e =
-      let known = R.knows s.letter s.number && all_below cells (names s) in
+      let known = R.knows s.order.letter s.order.number && all_below cells (names s) in
       let p = and_parts known (all_known R cells ss) e in
       and_from known (all_known R cells (take n ss)) p.0 (known-take n ss p.1)
 
   known-drop : (n : ℕ) (ss : List Step) → all_known R cells ss ≡ true → all_known R cells (drop n ss) ≡ true
   known-drop zero ss e = e
   known-drop (suc n) [] e = e
-  known-drop (suc n) (s ∷ ss) e = known-drop n ss (and_parts (R.knows s.letter s.number && all_below cells (names s)) (all_known R cells ss) e).1
+  known-drop (suc n) (s ∷ ss) e = known-drop n ss (and_parts (R.knows s.order.letter s.order.number && all_below cells (names s)) (all_known R cells ss) e).1
 
 module _ {V : Type 0} {R : Rules V} {S : Script} {start : State V} (o : Opened R S start) (st : State V) (k : Kept S start st) where
   long_is : long_enough R S st ≡ room_to_save S start

@@ -62,7 +62,7 @@ module _ {V : Type 0} {R : Rules V} {S : Script} {start : State V} (o : Opened R
   stuck_follows n = record { left = refl; took = refl; values = before; before = before; ends = noted (failed (row.taken + 1) n); reply = refl }
 
   -- the step passes: to set it back too gives what setting back the steps before it gave
-  back_more : (w old : V) → slice_get st.values cell ≡ Some old → R.makes here.letter here.number old ≡ makes_value w → (b : Bool) → writes R here ≡ b →
+  back_more : (w old : V) → slice_get st.values cell ≡ Some old → R.makes here.order.letter here.order.number old ≡ makes_value w → (b : Bool) → writes R here ≡ b →
       set_back R S.steps (cond b (put st.saved place (slice_get st.values cell)) st.saved) first (suc row.taken) (set st.values cell w)
       ≡ move_back R S st.saved row st.values
   back_more w old held made true e =
@@ -86,7 +86,7 @@ module _ {V : Type 0} {R : Rules V} {S : Script} {start : State V} (o : Opened R
   past_follows ws saved zs h k true = record { left = sym (left_more o a la row ok l); took = refl; values = h; before = k; ends = ends; reply = refl }
   past_follows ws saved zs h k false = record { left = refl; took = refl; values = h; before = h; ends = noted done; reply = refl }
 
-  lands_follows : (old : V) → slice_get st.values cell ≡ Some old → (q : Effect V) → R.makes here.letter here.number old ≡ q →
+  lands_follows : (old : V) → slice_get st.values cell ≡ Some old → (q : Effect V) → R.makes here.order.letter here.order.number old ≡ q →
       Follows R S P Q (turn_went R S st row (lands R st.values here q)) (fed_went R S book (due S row) after_it (lands R us here q))
   lands_follows old held (gives_cause n) made = stuck_follows n
   lands_follows old held (makes_value w) made =
@@ -101,7 +101,7 @@ module _ {V : Type 0} {R : Rules V} {S : Script} {start : State V} (o : Opened R
   meets_follows : (v : Option V) → slice_get st.values cell ≡ v →
       Follows R S P Q (turn_went R S st row (meets R st.values here v)) (fed_went R S book (due S row) after_it (meets R us here v))
   meets_follows None held = stuck_follows 0
-  meets_follows (Some v) held = lands_follows v held (R.makes here.letter here.number v) refl
+  meets_follows (Some v) held = lands_follows v held (R.makes here.order.letter here.order.number v) refl
 
   step_follows : Follows R S P Q (turn R S st row) (fed_left R S book (due S row ∷ after_it))
   step_follows =

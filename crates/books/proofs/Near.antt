@@ -26,7 +26,7 @@ module _ {V : Type 0} (R : Rules V) where
 
   meets_long : (vs : List V) (s : Step) (o : Option V) → Long (length vs) (meets R vs s o)
   meets_long vs s None = tt
-  meets_long vs s (Some v) = lands_long vs s (R.makes s.letter s.number v)
+  meets_long vs s (Some v) = lands_long vs s (R.makes s.order.letter s.order.number v)
 
   pub applied_long : (vs : List V) (s : Step) → Long (length vs) (applied R vs s)
   applied_long vs s = meets_long vs s (slice_get vs s.cell)
@@ -45,7 +45,7 @@ module _ {V : Type 0} (R : Rules V) where
 
     meets_near : (vs us : List V) (s : Step) → P s.cell → Alike P vs us → (o : Option V) → Near (meets R vs s o) (meets R us s o)
     meets_near vs us s p h None = refl
-    meets_near vs us s p h (Some v) = lands_near vs us s p h (R.makes s.letter s.number v)
+    meets_near vs us s p h (Some v) = lands_near vs us s p h (R.makes s.order.letter s.order.number v)
 
     applied_near : (vs us : List V) (s : Step) → P s.cell → Alike P vs us → Near (applied R vs s) (applied R us s)
     applied_near vs us s p h = subst (λ (o : Option V). Near (applied R vs s) (meets R us s o)) (h s.cell p) (meets_near vs us s p h (slice_get vs s.cell))
@@ -120,13 +120,13 @@ module _ {V : Type 0} (R : Rules V) where
 
   module _ (looks : Looks R) where
     -- a looking step that passes leaves the board as it was
-    pub set_looked : (vs : List V) (s : Step) (v w : V) → slice_get vs s.cell ≡ Some v → writes R s ≡ false → R.makes s.letter s.number v ≡ passes w →
+    pub set_looked : (vs : List V) (s : Step) (v w : V) → slice_get vs s.cell ≡ Some v → writes R s ≡ false → R.makes s.order.letter s.order.number v ≡ passes w →
         set vs s.cell w ≡ vs
-    set_looked vs s v w held look made = ap (λ y. set vs s.cell y) (looks s.letter s.number v w look made) ∙ set_same vs s.cell v held
+    set_looked vs s v w held look made = ap (λ y. set vs s.cell y) (looks s.order.letter s.order.number v w look made) ∙ set_same vs s.cell v held
 
     -- a cell that no step writes
     module _ (x : ℕ) where
-      lands_still : (vs : List V) (s : Step) → Spares x s → (v : V) → slice_get vs s.cell ≡ Some v → (q : Effect V) → R.makes s.letter s.number v ≡ q →
+      lands_still : (vs : List V) (s : Step) → Spares x s → (v : V) → slice_get vs s.cell ≡ Some v → (q : Effect V) → R.makes s.order.letter s.order.number v ≡ q →
           Still x vs (lands R vs s q)
       lands_still vs s free v held (passes w) made =
           elim (cases_Bool (writes R s)) [
@@ -137,7 +137,7 @@ module _ {V : Type 0} (R : Rules V) where
 
       meets_still : (vs : List V) (s : Step) → Spares x s → (o : Option V) → slice_get vs s.cell ≡ o → Still x vs (meets R vs s o)
       meets_still vs s free None held = tt
-      meets_still vs s free (Some v) held = lands_still vs s free v held (R.makes s.letter s.number v) refl
+      meets_still vs s free (Some v) held = lands_still vs s free v held (R.makes s.order.letter s.order.number v) refl
 
       pub applied_still : (vs : List V) (s : Step) → Spares x s → Still x vs (applied R vs s)
       applied_still vs s free = meets_still vs s free (slice_get vs s.cell) refl

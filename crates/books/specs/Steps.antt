@@ -24,7 +24,7 @@ module _ {V : Type 0} (R : Rules V) where
   -- every step call whose cell is outside the board is refused before
   abbrev pub meets : List V → Step → Option V → Went V
   meets vs s None = stuck 0
-  meets vs s (Some v) = lands vs s (R.makes s.letter s.number v)
+  meets vs s (Some v) = lands vs s (R.makes s.order.letter s.order.number v)
 
   -- one step: its cell is set to what the order makes of it, be it a writing or a looking order
   abbrev pub applied : List V → Step → Went V

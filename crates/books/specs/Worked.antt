@@ -33,10 +33,10 @@ abbrev move : ℕ → ℕ → ℕ → Move
 move label first count = record { label = label; first = first; count = count }
 
 abbrev adds : ℕ → ℕ → Step
-adds cell number = record { letter = 0; cell = cell; number = number }
+adds cell number = record { cell = cell; order = record { letter = 0; number = number } }
 
 abbrev takes : ℕ → ℕ → Step
-takes cell number = record { letter = 1; cell = cell; number = number }
+takes cell number = record { cell = cell; order = record { letter = 1; number = number } }
 
 -- 5 from cell 0 to cell 1; 7 to cell 2 and 9 from cell 3, where there is none; 5 from cell 1 to cell 2
 abbrev pub worked_batch : Listed

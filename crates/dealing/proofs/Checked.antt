@@ -57,7 +57,7 @@ below_all n (x ∷ xs) e (suc k) h = below_all n xs (and_right (ltb x n) (all_be
 pub known_within : {V : Type 0} (R : Rules V) (n : ℕ) (ss : List Step) → all_known R n ss ≡ true → Within n ss
 known_within R n [] e k h = absurd (omega arith)
 known_within R n (s ∷ ss) e zero h =
-    below_all n (names s) (and_right (R.knows s.letter s.number) (all_below n (names s)) (and_left (known R n s) (all_known R n ss) e)) 0 (omega arith)
+    below_all n (names s) (and_right (R.knows s.order.letter s.order.number) (all_below n (names s)) (and_left (known R n s) (all_known R n ss) e)) 0 (omega arith)
 known_within R n (s ∷ ss) e (suc k) h = known_within R n ss (and_right (known R n s) (all_known R n ss) e) k (omega arith)
 
 -- what open has found out when it refuses nothing

@@ -34,15 +34,15 @@ pub written-take : {V : Type 0} (R : Rules V) (n : ℕ) (ss : List Step) (c : �
 written-take R zero ss c e = absurd (let z : ◌≡◌ {A = ℕ} 0 1 = cc in omega arith)
 written-take R (suc n) [] c e = e
 written-take R (suc n) (s ∷ ss) c e =
-    elim (or_case (R.writes s.letter s.number && is_in c (names s)) (written R (take n ss) c) e) [
-      | inl h ↦ or_left (R.writes s.letter s.number && is_in c (names s)) (written R ss c) h
-      | inr h ↦ or_right (R.writes s.letter s.number && is_in c (names s)) (written R ss c) (written-take R n ss c h)
+    elim (or_case (R.writes s.order.letter s.order.number && is_in c (names s)) (written R (take n ss) c) e) [
+      | inl h ↦ or_left (R.writes s.order.letter s.order.number && is_in c (names s)) (written R ss c) h
+      | inr h ↦ or_right (R.writes s.order.letter s.order.number && is_in c (names s)) (written R ss c) (written-take R n ss c h)
     ]
 
 pub written-drop : {V : Type 0} (R : Rules V) (n : ℕ) (ss : List Step) (c : ℕ) → written R (drop n ss) c ≡ true → written R ss c ≡ true
 written-drop R zero ss c e = e
 written-drop R (suc n) [] c e = e
-written-drop R (suc n) (s ∷ ss) c e = or_right (R.writes s.letter s.number && is_in c (names s)) (written R ss c) (written-drop R n ss c e)
+written-drop R (suc n) (s ∷ ss) c e = or_right (R.writes s.order.letter s.order.number && is_in c (names s)) (written R ss c) (written-drop R n ss c e)
 
 pub written_part : {V : Type 0} (R : Rules V) (steps : List Step) (m : Move) (c : ℕ) → written R (steps_of steps m) c ≡ true → written R steps c ≡ true
 written_part R steps m c e = written-drop R m.first steps c (written-take R m.count (drop m.first steps) c e)
@@ -55,8 +55,8 @@ flag R cells steps c h = get_or-map-range_with_len (written R steps) 0 cells c c
 pub written_below : {V : Type 0} (R : Rules V) (n : ℕ) (ss : List Step) (c : ℕ) → Within n ss → written R ss c ≡ true → c < n
 written_below R n [] c w e = absurd (let z : ◌≡◌ {A = ℕ} 0 1 = cc in omega arith)
 written_below R n (s ∷ ss) c w e =
-    elim (or_case (R.writes s.letter s.number && is_in c (names s)) (written R ss c) e) [
-      | inl h ↦ elim (or_case (eqb s.cell c) false (and_right (R.writes s.letter s.number) (is_in c (names s)) h)) [
+    elim (or_case (R.writes s.order.letter s.order.number && is_in c (names s)) (written R ss c) e) [
+      | inl h ↦ elim (or_case (eqb s.cell c) false (and_right (R.writes s.order.letter s.order.number) (is_in c (names s)) h)) [
         | inl q ↦ let p : s.cell ≡ c = eqb-true s.cell c q in let v : s.cell < n = w 0 (omega arith) in omega arith
         | inr q ↦ absurd (let z : ◌≡◌ {A = ℕ} 0 1 = cc in omega arith)
       ]

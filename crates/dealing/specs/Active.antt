@@ -11,7 +11,7 @@ abbrev pub no_move : Move
 no_move = record { label = 0; first = 0; count = 0 }
 
 abbrev pub no_step : Step
-no_step = record { letter = 0; cell = 0; number = 0 }
+no_step = record { cell = 0; order = record { letter = 0; number = 0 } }
 
 -- which cells are active: some step of the batch writes them
 unfoldable pub active_flags : {V : Type 0} → Rules V → ℕ → List Step → List Bool

@@ -38,7 +38,7 @@ all_below n (x ∷ xs) = nat_lt x n && all_below n xs
 
 -- a step is an order that the kind knows, and the cells that it names are below the cells
 abbrev pub known : {V : Type 0} → Rules V → ℕ → Step → Bool
-known R cells s = R.knows s.letter s.number && all_below cells (names s)
+known R cells s = R.knows s.order.letter s.order.number && all_below cells (names s)
 
 abbrev pub all_known : {V : Type 0} → Rules V → ℕ → List Step → Bool
 all_known R cells [] = true

@@ -8,7 +8,7 @@ abbrev no_move : Move
 no_move = record { label = 0; first = 0; count = 0 }
 
 abbrev no_step : Step
-no_step = record { letter = 32; cell = 0; number = 0 }
+no_step = record { cell = 0; order = record { letter = 32; number = 0 } }
 
 pub record LaidOut {V : Type 0} (unnamed : V) (d : Desk V) : Type 0 where
   pub values : vec_items d.values ≡ replicate 1024 unnamed

@@ -1,8 +1,10 @@
 -- Feeders: a value is a load and a limit. A is 65, S is 83, H is 72, F is 70.
-use Rattle.std.specs.Prelude.{ℕ, ◌+◌, ◌-◌, Bool, false, cond, ◌&&◌, ◌||◌, Some, None, ◌==◌, nat_le}
+use Rattle.std.specs.Prelude.{ℕ, ◌+◌, ◌-◌, Bool, false, cond, ◌&&◌, ◌||◌, Some, None, Option, ◌==◌, nat_le}
 use Rattle.yard.specs.Rules.{Rules, Effect, passes, fails}
 use Rattle.yard.specs.Rows.{Rows}
 use Rattle.kinds.specs.declared.feeders.Section.{Section}
+use Rattle.kinds.specs.declared.feeders.Act.{Act}
+use Rattle.kinds.specs.declared.feeders.Act.TheVariants.{Add, Shed, Look}
 
 abbrev pub section : ℕ → ℕ → Section
 section load limit = record { load = load; limit = limit }
@@ -23,6 +25,22 @@ shed_load n v = cond (nat_le n v.load) (passes (section (v.load - n) v.limit)) (
 -- H n: n more would still be within the limit
 abbrev pub look_for_room : ℕ → Section → Effect Section
 look_for_room n v = cond (nat_le (v.load + n) v.limit) (passes v) (fails 29)
+
+-- what an order with this letter does
+abbrev pub feeder_act : ℕ → Option Act
+feeder_act l = cond (l == 65) (Some Add) (cond (l == 83) (Some Shed) (cond (l == 72) (Some Look) None))
+
+abbrev pub act_on : Act → ℕ → Section → Effect Section
+act_on Add = add_load
+act_on Shed = shed_load
+act_on Look = look_for_room
+
+-- a section with so much more, if that is within the limit, and with so much less
+abbrev pub raised_section : ℕ → Section → Option Section
+raised_section n v = cond (nat_le (v.load + n) v.limit) (Some (section (v.load + n) v.limit)) None
+
+abbrev pub lowered_section : ℕ → Section → Option Section
+lowered_section n v = cond (nat_le n v.load) (Some (section (v.load - n) v.limit)) None
 
 abbrev pub feeder_rules : Rules Section
 feeder_rules = record {

@@ -1,7 +1,9 @@
 -- Stands: a value is the number of a tram, and 0 is an empty stand. T is 84, P is 80, L is 76, S is 83.
-use Rattle.std.specs.Prelude.{ℕ, Bool, false, cond, ◌&&◌, ◌||◌, Some, None, ◌==◌, nat_le}
+use Rattle.std.specs.Prelude.{ℕ, Bool, false, cond, ◌&&◌, ◌||◌, Some, None, Option, ◌==◌, nat_le}
 use Rattle.yard.specs.Rules.{Rules, Effect, passes, fails}
 use Rattle.yard.specs.Rows.{Rows}
+use Rattle.kinds.specs.declared.stands.Act.{Act}
+use Rattle.kinds.specs.declared.stands.Act.TheVariants.{Take, Put, Look}
 
 abbrev pub stand_knows : ℕ → ℕ → Bool
 stand_knows l n =
@@ -19,6 +21,15 @@ put_tram n v = cond (v == 0) (passes n) (fails 25)
 -- L n: tram n is there, or with 0 none is
 abbrev pub look_for_tram : ℕ → ℕ → Effect ℕ
 look_for_tram n v = cond (v == n) (passes v) (fails 26)
+
+-- what an order with this letter does
+abbrev pub stand_act : ℕ → Option Act
+stand_act l = cond (l == 84) (Some Take) (cond (l == 80) (Some Put) (cond (l == 76) (Some Look) None))
+
+abbrev pub act_on : Act → ℕ → ℕ → Effect ℕ
+act_on Take = take_tram
+act_on Put = put_tram
+act_on Look = look_for_tram
 
 abbrev pub stand_rules : Rules ℕ
 stand_rules = record {

@@ -1,13 +1,13 @@
 //! Feeders: a section holds a load and a limit in amperes. A adds load, S sheds it, H looks for headroom.
 
-ghost use Rattle.std.specs.Prelude.{◌≡◌, Some};
-ghost use Rattle.kinds.specs.Feeders.{feeder_rules, feeder_rows, same_section, add_load, shed_load, look_for_room};
-ghost use Rattle.yard.specs.Told.{made};
+ghost use Rattle.std.specs.Prelude.{◌≡◌};
+ghost use Rattle.kinds.specs.Feeders.{feeder_rules, feeder_rows, feeder_act, act_on, same_section, raised_section, lowered_section};
+ghost use Rattle.yard.specs.Told.{effect};
 ghost use Rattle.std.proofs.Common.{rules};
 
+use yard::batch::Order;
 use yard::cause::Cause;
 use yard::kind::Kind;
-use yard::made::Made;
 
 /// What a feeder section holds. The load may stand above the limit.
 #[derive(Clone, Copy, Debug, PartialEq)]
@@ -23,11 +23,15 @@ impl Kind for Feeders {
 
     const ROW_WORDS: usize = 3;
 
+    ghost ROW_WORDS = { 3 };
+
     ghost rules = { feeder_rules };
 
     ghost rows = { feeder_rows };
 
     ghost equals = { same_section };
+
+    ghost row_words = { Prim.search rules };
 
     ghost looks = { Prim.search rules };
 
@@ -37,10 +41,6 @@ impl Kind for Feeders {
 
     fn sheet_letter() -> char {
         'F'
-    }
-
-    fn words_in_row() -> usize {
-        Self::ROW_WORDS
     }
 
     fn unnamed() -> Section {
@@ -54,11 +54,11 @@ impl Kind for Feeders {
         match place {
             1 => Some(Section {
                 load: word,
-                limit: value.limit,
+                ..value
             }),
             _ => Some(Section {
-                load: value.load,
                 limit: word,
+                ..value
             }),
         }
     }
@@ -71,76 +71,90 @@ impl Kind for Feeders {
     }
 
     fn equal(one: Section, other: Section) -> bool {
-        one.load == other.load && one.limit == other.limit
+        one == other
     }
 
     fn has_letter(letter: char) -> bool {
-        match letter {
-            'A' | 'S' | 'H' => true,
-            _ => false,
+        Act::of_letter(letter).is_some()
+    }
+
+    fn knows(order: Order) -> bool {
+        match Act::of_letter(order.letter) {
+            Some(Act::Add | Act::Shed) => 1 <= order.number && order.number <= MOST,
+            Some(Act::Look) => order.number <= MOST,
+            None => false,
         }
     }
 
-    fn knows(letter: char, number: u16) -> bool {
-        match letter {
-            'A' | 'S' => 1 <= number && number <= MOST,
-            'H' => number <= MOST,
-            _ => false,
-        }
+    fn writes(order: Order) -> bool {
+        matches!(Act::of_letter(order.letter), Some(Act::Add | Act::Shed))
     }
 
-    fn writes(letter: char, number: u16) -> bool {
-        match letter {
-            'A' | 'S' => true,
-            _ => false,
+    fn apply(order: Order, value: Section) -> Option<Result<Section, Cause>> {
+        if !Self::knows(order) {
+            return None;
         }
-    }
-
-    fn apply(letter: char, number: u16, value: Section) -> Made<Section> {
-        if !Self::knows(letter, number) {
-            return Made::Unknown;
-        }
-        match letter {
-            'A' => add(number, value),
-            'S' => shed(number, value),
-            _ => look(number, value),
-        }
+        let act = Act::of_letter(order.letter)?;
+        Some(act.done(order.number, value))
     }
 }
 
 // the highest number of amperes in a sheet
 const MOST: u16 = 4000;
 
-fn add(number: u16, value: Section) -> Made<Section>
-    ensures { made result ≡ Some (add_load number value) }
-{
-    match value.load.checked_add(number) {
-        Some(load) if load <= value.limit => Made::Value(Section {
-            load,
-            limit: value.limit,
-        }),
-        _ => Made::Cause(Cause::AboveLimit),
+// What an order does with a load.
+#[derive(Clone, Copy)]
+enum Act {
+    Add,
+    Shed,
+    Look,
+}
+
+impl Act {
+    fn of_letter(letter: char) -> Option<Act>
+        ensures { result ≡ feeder_act letter }
+    {
+        match letter {
+            'A' => Some(Act::Add),
+            'S' => Some(Act::Shed),
+            'H' => Some(Act::Look),
+            _ => None,
+        }
+    }
+
+    // What the act makes of a section.
+    fn done(self, amperes: u16, section: Section) -> Result<Section, Cause>
+        ensures { effect result ≡ act_on self amperes section }
+    {
+        match self {
+            Act::Add => section.raised(amperes).ok_or(Cause::AboveLimit),
+            Act::Shed => section.lowered(amperes).ok_or(Cause::BelowZero),
+            Act::Look => section
+                .raised(amperes)
+                .and(Some(section))
+                .ok_or(Cause::NoHeadroom),
+        }
     }
 }
 
-fn shed(number: u16, value: Section) -> Made<Section>
-    ensures { made result ≡ Some (shed_load number value) }
-{
-    if number <= value.load {
-        Made::Value(Section {
-            load: value.load - number,
-            limit: value.limit,
-        })
-    } else {
-        Made::Cause(Cause::BelowZero)
+impl Section {
+    // With so many amperes more, if that is within the limit.
+    fn raised(self, amperes: u16) -> Option<Section>
+        ensures { result ≡ raised_section amperes self }
+    {
+        let load = self.load.checked_add(amperes)?;
+        if load <= self.limit {
+            Some(Section { load, ..self })
+        } else {
+            None
+        }
     }
-}
 
-fn look(number: u16, value: Section) -> Made<Section>
-    ensures { made result ≡ Some (look_for_room number value) }
-{
-    match value.load.checked_add(number) {
-        Some(load) if load <= value.limit => Made::Value(value),
-        _ => Made::Cause(Cause::NoHeadroom),
+    // With so many amperes less.
+    fn lowered(self, amperes: u16) -> Option<Section>
+        ensures { result ≡ lowered_section amperes self }
+    {
+        let load = self.load.checked_sub(amperes)?;
+        Some(Section { load, ..self })
     }
 }

@@ -1,13 +1,13 @@
 //! Stands: a cell holds the number of its tram, and 0 where it is empty. T takes a tram, P puts one, L looks for one.
 
-ghost use Rattle.std.specs.Prelude.{◌≡◌, Some, nat_eq};
-ghost use Rattle.kinds.specs.Stands.{stand_rules, stand_rows, take_tram, put_tram, look_for_tram};
-ghost use Rattle.yard.specs.Told.{made};
+ghost use Rattle.std.specs.Prelude.{◌≡◌, nat_eq};
+ghost use Rattle.kinds.specs.Stands.{stand_rules, stand_rows, stand_act, act_on, take_tram, put_tram, look_for_tram};
+ghost use Rattle.yard.specs.Told.{effect};
 ghost use Rattle.std.proofs.Common.{rules};
 
+use yard::batch::Order;
 use yard::cause::Cause;
 use yard::kind::Kind;
-use yard::made::Made;
 
 pub struct Stands;
 
@@ -16,9 +16,13 @@ impl Kind for Stands {
 
     const ROW_WORDS: usize = 2;
 
+    ghost ROW_WORDS = { 2 };
+
     ghost rules = { stand_rules };
 
     ghost rows = { stand_rows };
+
+    ghost row_words = { Prim.search rules };
 
     ghost equals = { nat_eq };
 
@@ -30,10 +34,6 @@ impl Kind for Stands {
 
     fn sheet_letter() -> char {
         'S'
-    }
-
-    fn words_in_row() -> usize {
-        Self::ROW_WORDS
     }
 
     fn unnamed() -> u16 {
@@ -53,36 +53,27 @@ impl Kind for Stands {
     }
 
     fn has_letter(letter: char) -> bool {
-        match letter {
-            'T' | 'P' | 'L' => true,
-            _ => false,
+        Act::of_letter(letter).is_some()
+    }
+
+    fn knows(order: Order) -> bool {
+        match Act::of_letter(order.letter) {
+            Some(Act::Take | Act::Put) => 1 <= order.number && order.number <= MOST,
+            Some(Act::Look) => order.number <= MOST,
+            None => false,
         }
     }
 
-    fn knows(letter: char, number: u16) -> bool {
-        match letter {
-            'T' | 'P' => 1 <= number && number <= MOST,
-            'L' => number <= MOST,
-            _ => false,
-        }
+    fn writes(order: Order) -> bool {
+        matches!(Act::of_letter(order.letter), Some(Act::Take | Act::Put))
     }
 
-    fn writes(letter: char, number: u16) -> bool {
-        match letter {
-            'T' | 'P' => true,
-            _ => false,
+    fn apply(order: Order, value: u16) -> Option<Result<u16, Cause>> {
+        if !Self::knows(order) {
+            return None;
         }
-    }
-
-    fn apply(letter: char, number: u16, value: u16) -> Made<u16> {
-        if !Self::knows(letter, number) {
-            return Made::Unknown;
-        }
-        match letter {
-            'T' => take(number, value),
-            'P' => put(number, value),
-            _ => look(number, value),
-        }
+        let act = Act::of_letter(order.letter)?;
+        Some(act.done(order.number, value))
     }
 }
 
@@ -92,34 +83,66 @@ const EMPTY: u16 = 0;
 // the highest number of a tram
 const MOST: u16 = 9999;
 
-fn take(number: u16, value: u16) -> Made<u16>
-    ensures { made result ≡ Some (take_tram number value) }
-{
-    if value == number {
-        Made::Value(EMPTY)
-    } else if value == EMPTY {
-        Made::Cause(Cause::NoTram)
-    } else {
-        Made::Cause(Cause::OtherTram)
+// What an order does with a tram.
+#[derive(Clone, Copy)]
+enum Act {
+    Take,
+    Put,
+    Look,
+}
+
+impl Act {
+    fn of_letter(letter: char) -> Option<Act>
+        ensures { result ≡ stand_act letter }
+    {
+        match letter {
+            'T' => Some(Act::Take),
+            'P' => Some(Act::Put),
+            'L' => Some(Act::Look),
+            _ => None,
+        }
+    }
+
+    // What the act makes of a stand.
+    fn done(self, tram: u16, value: u16) -> Result<u16, Cause>
+        ensures { effect result ≡ act_on self tram value }
+    {
+        match self {
+            Act::Take => take(tram, value),
+            Act::Put => put(tram, value),
+            Act::Look => look(tram, value),
+        }
     }
 }
 
-fn put(number: u16, value: u16) -> Made<u16>
-    ensures { made result ≡ Some (put_tram number value) }
+fn take(tram: u16, value: u16) -> Result<u16, Cause>
+    ensures { effect result ≡ take_tram tram value }
+{
+    if value == tram {
+        Ok(EMPTY)
+    } else if value == EMPTY {
+        Err(Cause::NoTram)
+    } else {
+        Err(Cause::OtherTram)
+    }
+}
+
+fn put(tram: u16, value: u16) -> Result<u16, Cause>
+    ensures { effect result ≡ put_tram tram value }
 {
     if value == EMPTY {
-        Made::Value(number)
+        Ok(tram)
     } else {
-        Made::Cause(Cause::StandTaken)
+        Err(Cause::StandTaken)
     }
 }
 
-fn look(number: u16, value: u16) -> Made<u16>
-    ensures { made result ≡ Some (look_for_tram number value) }
+fn look(tram: u16, value: u16) -> Result<u16, Cause>
+    ensures { effect result ≡ look_for_tram tram value }
 {
-    if value == number {
-        Made::Value(value)
+    if value == tram {
+        Ok(value)
     } else {
-        Made::Cause(Cause::NotAsLooked)
+        Err(Cause::NotAsLooked)
     }
 }

@@ -73,7 +73,7 @@ fn list_cell<K: Kind>(cell: usize, value: K::Value, pen: &mut Pen)
     ensures { penned pen.new ≡ wrote (line (cell_line K.Kind.rows cell value)) (penned pen.old) }
 {
     pen.number(cell);
-    for place in 1..K::words_in_row() {
+    for place in 1..K::ROW_WORDS {
         pen.word(usize::from(K::word_at(value, place)));
     }
     pen.end_line();

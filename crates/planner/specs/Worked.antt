@@ -37,7 +37,7 @@ move label first count = record { label = label; first = first; count = count }
 
 -- T is 84, P is 80, L is 76
 abbrev step : ℕ → ℕ → ℕ → Step
-step letter cell number = record { letter = letter; cell = cell; number = number }
+step letter cell number = record { cell = cell; order = record { letter = letter; number = number } }
 
 abbrev pub worked_yard : Sheet ℕ
 worked_yard = record {

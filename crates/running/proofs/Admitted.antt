@@ -117,7 +117,7 @@ module _ {V : Type 0} (R : Rules V) (S : Script) (st : State V) (few : S.numbers
   due_now : (row : LaneRow) → Long → Fitting row → Due R S (state st.values st.saved st.ends []) row
   due_now row l f =
       let s = step_at S (due_place S row) in
-      let p = and_parts (R.knows s.letter s.number) (all_below S.numbers.cells (names s)) (due_known row l f) in
+      let p = and_parts (R.knows s.order.letter s.order.number) (all_below S.numbers.cells (names s)) (due_known row l f) in
       let below = ltb-true s.cell S.numbers.cells (and_parts (ltb s.cell S.numbers.cells) true p.1).0 in
       record {
         waits = f.waits;

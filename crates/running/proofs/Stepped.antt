@@ -41,13 +41,13 @@ held_is (x ∷ vs) (suc cell) v e = held_is vs cell v e
 
 -- a looking step that passed
 module _ {V : Type 0} (R : Rules V) (looks : Looks R) (vs : List V) (s : Step) (looked : writes R s ≡ false) where
-  pub looked_on : (old new : V) → gives old ≡ value_at vs s.cell → R.knows s.letter s.number ≡ true → Some (passes new) ≡ asked R s.letter s.number old →
+  pub looked_on : (old new : V) → gives old ≡ value_at vs s.cell → R.knows s.order.letter s.order.number ≡ true → Some (passes new) ≡ asked R s.order.letter s.order.number old →
       applied R vs s ≡ goes vs
   looked_on old new held known e =
       let at = held_is vs s.cell old held in
-      let f : Some (passes new) ≡ Some (R.makes s.letter s.number old) = e ∙ ap (λ t. cond t (Some (R.makes s.letter s.number old)) None) known in
-      let makes : R.makes s.letter s.number old ≡ passes new = cc in
-      ap (meets R vs s) at ∙ ap (lands R vs s) makes ∙ ap (λ v. goes (set vs s.cell v)) (looks s.letter s.number old new looked makes) ∙ ap goes (set_same vs s.cell old at)
+      let f : Some (passes new) ≡ Some (R.makes s.order.letter s.order.number old) = e ∙ ap (λ t. cond t (Some (R.makes s.order.letter s.order.number old)) None) known in
+      let makes : R.makes s.order.letter s.order.number old ≡ passes new = cc in
+      ap (meets R vs s) at ∙ ap (lands R vs s) makes ∙ ap (λ v. goes (set vs s.cell v)) (looks s.order.letter s.order.number old new looked makes) ∙ ap goes (set_same vs s.cell old at)
 
   pub none_kept : (saved : List V) (place : ℕ) → saved ≡ kept R vs s saved place
   none_kept saved place = sym (ap (λ b. cond b (put saved place (slice_get vs s.cell)) saved) looked)

@@ -13,7 +13,7 @@ module _ {V : Type 0} (R : Rules V) (steps : List Step) where
     pub a_step : place < length steps
     pub room : place < length saved
     pub a_cell : (get_or steps place no_step).cell < length values
-    pub known : R.knows (get_or steps place no_step).letter (get_or steps place no_step).number ≡ true
+    pub known : R.knows (get_or steps place no_step).order.letter (get_or steps place no_step).order.number ≡ true
 
   -- the step after `taken` others of the move that begins at `first`: the board held vs before it and holds vs' after it, and old and old' were saved
   module _ (first taken : ℕ) (vs old vs' old' : List V) where

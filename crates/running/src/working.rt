@@ -8,7 +8,6 @@ use yard::batch::Step;
 use yard::board::Board;
 use yard::cause::Cause;
 use yard::kind::Kind;
-use yard::made::Made;
 
 /// Works the step that comes after `taken` others of the move that begins at `first`. If it fails, the move is set back.
 pub(crate) fn work_step<K: Kind, B: Board<Value = K::Value>>(
@@ -29,19 +28,19 @@ pub(crate) fn work_step<K: Kind, B: Board<Value = K::Value>>(
     let Ok(old) = board.get(cell) else {
         unreachable();
     };
-    match K::apply(step.letter, step.number, old) {
-        Made::Value(new) => {
-            if K::writes(step.letter, step.number) {
+    match K::apply(step.order, old) {
+        Some(Ok(new)) => {
+            if K::writes(step.order) {
                 saved[place] = old;
                 let _ = board.set(cell, new);
             }
             Ok(())
         }
-        Made::Cause(cause) => {
+        Some(Err(cause)) => {
             set_back::<K, B>(board, steps, saved, first, taken);
             Err(cause)
         }
-        Made::Unknown => unreachable(),
+        None => unreachable(),
     }
 }
 
@@ -61,7 +60,7 @@ fn set_back<K: Kind, B: Board<Value = K::Value>>(
 {
     for k in (0..count).rev() {
         let step = steps[first + k];
-        if K::writes(step.letter, step.number) {
+        if K::writes(step.order) {
             let _ = board.set(usize::from(step.cell), saved[first + k]);
         }
     }

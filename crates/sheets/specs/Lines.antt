@@ -82,7 +82,7 @@ step_line R cells h =
     and_then (passing (R.letters letter) (in_word 1 WrongLetter) letter) (λ _.
     and_then (on_err Word (number_below 2 cells (past 1 h))) (λ cell.
     and_then (on_err Word (number_at 3 (past 2 h))) (λ number.
-    cond (R.knows letter number) (Ok (read (record { letter = letter; cell = cell; number = number }) (past 3 h))) (Err (in_word 3 OutOfRange)))))))
+    cond (R.knows letter number) (Ok (read (record { cell = cell; order = record { letter = letter; number = number } }) (past 3 h))) (Err (in_word 3 OutOfRange)))))))
 
 -- a choice: the place of one of the moves
 abbrev pub choice_line : ℕ → Here → Result (Read ℕ) LineFault

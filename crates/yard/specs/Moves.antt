@@ -23,7 +23,7 @@ named (s ∷ ss) c = is_in c (names s) || named ss c
 
 module _ {V : Type 0} (R : Rules V) where
   abbrev pub writes : Step → Bool
-  writes s = R.writes s.letter s.number
+  writes s = R.writes s.order.letter s.order.number
 
   -- some of the steps writes the cell
   abbrev pub written : List Step → ℕ → Bool

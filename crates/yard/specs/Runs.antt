@@ -1,10 +1,11 @@
 -- What a run's outcomes and answers tell: the numbers of the table, and the values that come with them.
-use Rattle.std.specs.Prelude.{ℕ}
+use Rattle.std.specs.Prelude.{ℕ, Ok, Err, Result}
+use Rattle.yard.specs.declared.refusal.Refusal.{Refusal}
 use Rattle.yard.specs.declared.run.Outcome.{Outcome}
 use Rattle.yard.specs.declared.run.Outcome.TheVariants.{NotEnded, Done, Failed}
 use Rattle.yard.specs.declared.run.Tally.{Tally}
 use Rattle.yard.specs.declared.run.Answer.{Answer}
-use Rattle.yard.specs.declared.run.Answer.TheVariants.{Passed, Done as MoveDone, Failed as MoveFailed, Held, Counted, Refused}
+use Rattle.yard.specs.declared.run.Answer.TheVariants.{Passed, Done as MoveDone, Failed as MoveFailed, Held, Counted}
 use Rattle.yard.specs.Numbers.{refusal_number, cause_number}
 
 -- what open tells of a run
@@ -34,10 +35,10 @@ pub data Reply (V : Type 0) : Type 0 where
   counts : Tally → Reply V
   refuses : ℕ → Reply V
 
-abbrev pub reply_of : {V : Type 0} → Answer V → Reply V
-reply_of Passed = passes
-reply_of MoveDone = ends
-reply_of (MoveFailed step cause) = fails step (cause_number cause)
-reply_of (Held v) = holds v
-reply_of (Counted t) = counts t
-reply_of (Refused r) = refuses (refusal_number r)
+abbrev pub reply_of : {V : Type 0} → Result (Answer V) Refusal → Reply V
+reply_of (Ok Passed) = passes
+reply_of (Ok MoveDone) = ends
+reply_of (Ok (MoveFailed step cause)) = fails step (cause_number cause)
+reply_of (Ok (Held v)) = holds v
+reply_of (Ok (Counted t)) = counts t
+reply_of (Err r) = refuses (refusal_number r)

@@ -1,8 +1,7 @@
 -- What an answer tells, whatever the type that it comes in: a number of the table, 0 where nothing is refused, and the value that comes with it.
 use Rattle.std.specs.Prelude.{ℕ, Some, None, Ok, Err, Option, Result}
 use Rattle.yard.specs.declared.refusal.Refusal.{Refusal}
-use Rattle.yard.specs.declared.made.Made.{Made}
-use Rattle.yard.specs.declared.made.Made.TheVariants.{Value, Cause, Unknown}
+use Rattle.yard.specs.declared.cause.Cause.{Cause}
 use Rattle.yard.specs.Numbers.{refusal_number, cause_number}
 use Rattle.yard.specs.Rules.{Effect, passes, fails}
 
@@ -20,8 +19,12 @@ abbrev pub told : {A : Type 0} → Result A Refusal → Told A
 told (Ok a) = gives a
 told (Err r) = refuses (refusal_number r)
 
+-- what an order made of a value, or the number of the cause why it could not
+abbrev pub effect : {V : Type 0} → Result V Cause → Effect V
+effect (Ok v) = passes v
+effect (Err c) = fails (cause_number c)
+
 -- a kind's answer: what the order makes of the value, or nothing where the order is unknown
-abbrev pub made : {V : Type 0} → Made V → Option (Effect V)
-made (Value v) = Some (passes v)
-made (Cause c) = Some (fails (cause_number c))
-made Unknown = None
+abbrev pub made : {V : Type 0} → Option (Result V Cause) → Option (Effect V)
+made (Some r) = Some (effect r)
+made None = None

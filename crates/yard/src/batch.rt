@@ -1,11 +1,22 @@
 //! Steps, moves and batches.
 
-/// One order on one cell: the order is a letter and a number.
+ghost use Rattle.std.specs.Prelude.{◌≡◌};
+ghost use Rattle.yard.specs.Moves.{steps_of};
+
+use crate::part::part;
+
+/// What is to be done on a cell: a letter and a number.
+#[derive(Clone, Copy, Debug, PartialEq)]
+pub struct Order {
+    pub letter: char,
+    pub number: u16,
+}
+
+/// One order on one cell.
 #[derive(Clone, Copy, Debug, PartialEq)]
 pub struct Step {
-    pub letter: char,
     pub cell: u16,
-    pub number: u16,
+    pub order: Order,
 }
 
 /// Steps that belong together: `count` of the batch's steps, from the place `first` on.
@@ -19,9 +30,11 @@ pub struct Move {
 impl Step {
     /// An entry of a list of steps that nothing has been written to. No order has this letter.
     pub const NONE: Step = Step {
-        letter: ' ',
         cell: 0,
-        number: 0,
+        order: Order {
+            letter: ' ',
+            number: 0,
+        },
     };
 }
 
@@ -32,6 +45,26 @@ impl Move {
         first: 0,
         count: 0,
     };
+
+    /// The move's own steps among those of its batch.
+    pub fn steps(self, steps: &[Step]) -> &[Step]
+        ensures { result.now ≡ steps_of steps.now self }
+    {
+        let first = usize::from(self.first);
+        part(steps, first, first + usize::from(self.count))
+    }
+}
+
+impl Default for Step {
+    fn default() -> Step {
+        Step::NONE
+    }
+}
+
+impl Default for Move {
+    fn default() -> Move {
+        Move::NONE
+    }
 }
 
 /// What is dealt in one go: the moves with all their steps, the moves to be sampled, and the share of merging in thousandths.

@@ -5,13 +5,13 @@ ghost use Rattle.yard.specs.Numbers.{cause_number};
 
 #[derive(Clone, Copy, Debug, PartialEq)]
 pub enum Cause {
-    NoTram,
-    OtherTram,
-    StandTaken,
-    NotAsLooked,
-    AboveLimit,
-    BelowZero,
-    NoHeadroom,
+    NoTram = 23,
+    OtherTram = 24,
+    StandTaken = 25,
+    NotAsLooked = 26,
+    AboveLimit = 27,
+    BelowZero = 28,
+    NoHeadroom = 29,
 }
 
 impl Cause {
@@ -19,14 +19,6 @@ impl Cause {
     pub fn number(self) -> u8
         ensures { result ≡ cause_number self }
     {
-        match self {
-            Cause::NoTram => 23,
-            Cause::OtherTram => 24,
-            Cause::StandTaken => 25,
-            Cause::NotAsLooked => 26,
-            Cause::AboveLimit => 27,
-            Cause::BelowZero => 28,
-            Cause::NoHeadroom => 29,
-        }
+        self as u8
     }
 }

@@ -1,19 +1,22 @@
 //! A kind of order: what its cells hold, and what its orders make of that.
 
-ghost use Rattle.std.specs.Prelude.{◌≡◌, Bool};
+ghost use Rattle.std.specs.Prelude.{◌≡◌, ℕ, Bool};
 ghost use Rattle.yard.specs.Rules.{Rules, Looks, asked};
 ghost use Rattle.yard.specs.Rows.{Rows, ToldAgain};
 ghost use Rattle.yard.specs.Equal.{TellsEqual};
 ghost use Rattle.yard.specs.Told.{made};
 
-use crate::made::Made;
+use crate::batch::Order;
+use crate::cause::Cause;
 
 pub trait Kind {
     /// What a cell holds.
     type Value: Copy;
 
-    /// The words of an occupancy row, the cell among them. Generic code asks `words_in_row`, whose contract it knows.
+    /// The words of an occupancy row, the cell among them.
     const ROW_WORDS: usize;
+
+    ghost ROW_WORDS: { ℕ };
 
     ghost rules: { Rules Self.Value };
 
@@ -24,10 +27,6 @@ pub trait Kind {
     /// The letter that a sheet of this kind begins with.
     fn sheet_letter() -> char
         ensures { result ≡ rows.letter };
-
-    /// The words of an occupancy row, the cell among them.
-    fn words_in_row() -> usize
-        ensures { result ≡ rows.words };
 
     /// The value of a cell that no row names.
     fn unnamed() -> Self::Value
@@ -48,15 +47,18 @@ pub trait Kind {
     fn has_letter(letter: char) -> bool
         ensures { result ≡ rules.letters letter };
 
-    fn knows(letter: char, number: u16) -> bool
-        ensures { result ≡ rules.knows letter number };
+    fn knows(order: Order) -> bool
+        ensures { result ≡ rules.knows order.letter order.number };
 
-    fn writes(letter: char, number: u16) -> bool
-        ensures { result ≡ rules.writes letter number };
+    fn writes(order: Order) -> bool
+        ensures { result ≡ rules.writes order.letter order.number };
 
-    /// What an order makes of a value.
-    fn apply(letter: char, number: u16, value: Self::Value) -> Made<Self::Value>
-        ensures { made result ≡ asked rules letter number value };
+    /// What an order makes of a value, or the cause why it cannot. `None` where the kind does not know the order.
+    fn apply(order: Order, value: Self::Value) -> Option<Result<Self::Value, Cause>>
+        ensures { made result ≡ asked rules order.letter order.number value };
+
+    // a row has as many words as the constant says
+    ghost row_words: { ROW_WORDS ≡ rows.words };
 
     // a looking order that passes gives back the value that it saw
     ghost looks: { Looks rules };

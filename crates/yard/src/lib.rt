@@ -7,6 +7,6 @@ pub mod board;
 pub mod cause;
 pub mod full;
 pub mod kind;
-pub mod made;
+pub mod part;
 pub mod refusal;
 pub mod run;

@@ -6,25 +6,25 @@ ghost use Rattle.yard.specs.Numbers.{refusal_number};
 #[derive(Clone, Copy, Debug, PartialEq)]
 pub enum Refusal {
     /// a list for results is too short
-    ResultTooShort,
+    ResultTooShort = 11,
     /// moves that are not 1 to 8 steps each, end to end over all the steps, or too many moves, steps or choices
-    MisshapenBatch,
+    MisshapenBatch = 12,
     /// share or cells out of range
-    OutOfRange,
+    OutOfRange = 13,
     /// an order that the kind does not know, or a cell not below the cells
-    UnknownOrder,
+    UnknownOrder = 14,
     /// a choice that names no move
-    NoSuchMove,
+    NoSuchMove = 15,
     /// a list that open writes is too short
-    WorkTooShort,
+    WorkTooShort = 16,
     /// a board with fewer cells than the sheet
-    BoardTooSmall,
+    BoardTooSmall = 17,
     /// lists or a board that are not those of this run
-    NotThisRun,
-    NoSuchLane,
-    LaneAtEnd,
-    QueuesBusy,
-    NoSuchCell,
+    NotThisRun = 18,
+    NoSuchLane = 19,
+    LaneAtEnd = 20,
+    QueuesBusy = 21,
+    NoSuchCell = 22,
 }
 
 impl Refusal {
@@ -32,19 +32,6 @@ impl Refusal {
     pub fn number(self) -> u8
         ensures { result ≡ refusal_number self }
     {
-        match self {
-            Refusal::ResultTooShort => 11,
-            Refusal::MisshapenBatch => 12,
-            Refusal::OutOfRange => 13,
-            Refusal::UnknownOrder => 14,
-            Refusal::NoSuchMove => 15,
-            Refusal::WorkTooShort => 16,
-            Refusal::BoardTooSmall => 17,
-            Refusal::NotThisRun => 18,
-            Refusal::NoSuchLane => 19,
-            Refusal::LaneAtEnd => 20,
-            Refusal::QueuesBusy => 21,
-            Refusal::NoSuchCell => 22,
-        }
+        self as u8
     }
 }

@@ -1,7 +1,9 @@
 //! What a run keeps in its lists, what can be asked of it, and what it answers.
 
+ghost use Rattle.std.specs.Prelude.{◌≡◌, slice_range};
+
 use crate::cause::Cause;
-use crate::refusal::Refusal;
+use crate::part::part;
 
 /// A lane's part of the line-up, from `first` to before `end`. The moves before `next` have ended; of the one at `next` so many steps are taken.
 #[derive(Clone, Copy, Debug, PartialEq)]
@@ -20,6 +22,13 @@ impl LaneRow {
         end: 0,
         taken: 0,
     };
+
+    /// The places of the lane's moves: its part of the line-up.
+    pub fn places(self, line_up: &[u16]) -> &[u16]
+        ensures { result.now ≡ slice_range line_up.now self.first self.end }
+    {
+        part(line_up, usize::from(self.first), usize::from(self.end))
+    }
 }
 
 /// How a move stands. A failed one has the failing step, counted from 1, and the cause.
@@ -55,5 +64,4 @@ pub enum Answer<V> {
     Failed(u16, Cause),
     Held(V),
     Counted(Tally),
-    Refused(Refusal),
 }

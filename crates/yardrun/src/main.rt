@@ -63,7 +63,7 @@ fn tell_moves<V: Drop>(rt: &HostRuntime, counts: Counts, desk: &Desk<V>) -> anyh
             .skip(found.first as usize)
             .take(found.count as usize)
         {
-            print!(rt; " {} {} {}", step.letter, step.cell, step.number)?;
+            print!(rt; " {} {} {}", step.order.letter, step.cell, step.order.number)?;
         }
         println!(rt; "")?;
     }

@@ -86,7 +86,7 @@ fn all_known<K: Kind>(steps: &[Step], cells: usize) -> bool
 fn is_known<K: Kind>(step: Step, cells: usize) -> bool
     ensures { result ≡ known K.Kind.rules cells step }
 {
-    K::knows(step.letter, step.number) && usize::from(step.cell) < cells
+    K::knows(step.order) && usize::from(step.cell) < cells
 }
 
 fn all_below(choices: &[u16], count: usize) -> bool

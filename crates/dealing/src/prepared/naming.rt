@@ -15,7 +15,7 @@ pub(crate) fn prepare<K: Kind>(steps: &[Step], active: &mut [bool])
 {
     active.fill(false);
     for step in steps {
-        if K::writes(step.letter, step.number) {
+        if K::writes(step.order) {
             active[usize::from(step.cell)] = true;
         }
     }

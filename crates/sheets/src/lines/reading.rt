@@ -7,7 +7,7 @@ ghost use Rattle.sheets.specs.Lines.{answered, kind_line, count_line, occupancy_
 use super::{Row, Size};
 use text::faults::{AtWord, LineFault, WordFault};
 use text::reader::Reader;
-use yard::batch::{Move, Step};
+use yard::batch::{Move, Order, Step};
 use yard::kind::Kind;
 
 /// The first line: the kind's letter, the cells and the share.
@@ -52,7 +52,7 @@ fn row_value<K: Kind>(reader: &mut Reader) -> Result<K::Value, LineFault>
     ensures { answered result (here reader.new) ≡ row_value K.Kind.rows (K.Kind.rows.words - 1) 1 K.Kind.rows.unnamed (here reader.old) }
 {
     let mut value = K::unnamed();
-    for place in 1..K::words_in_row() {
+    for place in 1..K::ROW_WORDS {
         let word = reader.number(place + 1)?;
         let Some(longer) = K::with_word(value, place, word) else {
             return Err(LineFault::Word(AtWord {
@@ -74,7 +74,7 @@ pub(crate) fn row_line<K: Kind>(
     ensures answer { answered result (here reader.new) ≡ row_line K.Kind.rows cells low (here reader.old) }
     ensures bound { IfOk result (λ row. row.cell < cells) }
 {
-    reader.line_there(K::words_in_row())?;
+    reader.line_there(K::ROW_WORDS)?;
     let cell = reader.number_below(1, cells)?;
     let value = row_value::<K>(reader)?;
     if cell < low {
@@ -114,17 +114,14 @@ pub(crate) fn step_line<K: Kind>(reader: &mut Reader, cells: u16) -> Result<Step
     }
     let cell = reader.number_below(2, cells)?;
     let number = reader.number(3)?;
-    if !K::knows(letter, number) {
+    let order = Order { letter, number };
+    if !K::knows(order) {
         return Err(LineFault::Word(AtWord {
             word: 3,
             fault: WordFault::OutOfRange,
         }));
     }
-    Ok(Step {
-        letter,
-        cell,
-        number,
-    })
+    Ok(Step { cell, order })
 }
 
 /// A choice: the place of one of the moves.

@@ -13,7 +13,7 @@ use Rattle.planner.proofs.planning.plan_sheet.Goals as goal
 
 -- the lists that a sheet is read into; 32 is the space, which is no order's letter
 abbrev read_into : {V : Type 0} → List V → Lists V
-read_into values = lists values (replicate 256 (record { label = 0; first = 0; count = 0 })) (replicate 1024 (record { letter = 32; cell = 0; number = 0 })) (replicate 64 0)
+read_into values = lists values (replicate 256 (record { label = 0; first = 0; count = 0 })) (replicate 1024 (record { cell = 0; order = record { letter = 32; number = 0 } })) (replicate 64 0)
 
 full : {V : Type 0} (values : List V) → length values ≡ 1024 → roomy (read_into values) ≡ true
 full values e = rw e
