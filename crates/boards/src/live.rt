@@ -46,11 +46,7 @@ impl<V: Copy> Board for LiveBoard<'_, V> {
 fn held<V: Copy>(cells: &[V], cell: usize) -> Result<V, Refusal>
     ensures { told result ≡ value_at cells.now cell }
 {
-    if cell < cells.len() {
-        Ok(cells[cell])
-    } else {
-        Err(Refusal::NoSuchCell)
-    }
+    cells.get(cell).copied().ok_or(Refusal::NoSuchCell)
 }
 
 fn put<V: Copy>(cells: &mut [V], cell: usize, value: V) -> Result<(), Refusal>

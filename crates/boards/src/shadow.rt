@@ -99,8 +99,9 @@ fn clear<V: Copy>(changes: &mut [Option<V>], base: &[V])
     ensures values { shown changes.new base.now ≡ take (length changes.old) base.now }
     ensures past { drop (length base.now) changes.new ≡ drop (length base.now) changes.old }
 {
-    for cell in 0..counted(changes, base) {
-        changes[cell] = None;
+    let count = counted(changes, base);
+    for change in changes[..count].iter_mut() {
+        *change = None;
     }
 }
 

@@ -1,21 +1,20 @@
--- Each turn empties one place more, and at the end all that are counted.
-use Rattle.std.proofs.Common.{◌≡◌, min, length, set, None, ap, ◌∙◌, arith}
-use Rattle.boards.proofs.Changes.{cleared_more, end_changes, end_values, end_past}
+-- All places that are counted are empty at the end.
+use Rattle.std.proofs.Common.{◌≡◌, ℕ, ◌<◌, min, length, get_or, None, arith}
+use Rattle.std.proofs.lemmas.List.{length-take}
+use Rattle.boards.proofs.Changes.{end_changes, end_values, end_past}
 use Rattle.boards.proofs.shadow.clear.Goals as goal
-
-pub loop-cell-preserved : goal.loop-cell-preserved
-loop-cell-preserved g c =
-    ap (λ t. set t c.loop-cell.cell None) c.loop-cell.invariant ∙ cleared_more c.loop-cell.cell c.args.changes.now
 
 pub returns : goal.returns
 returns g c =
     let cs = c.args.changes.now in
-    let ds = c.loop-cell.changes in
+    let ds = c.loop-change.change-items in
     let bs = c.args.base.now in
-    let n = c.loop-cell.cell in
-    let all : n ≡ min (length cs) (length bs) = omega arith in
+    let n = c.counted-count.result in
+    let all : n ≡ min (length cs) (length bs) = c.counted-count.ensures.shorter in
+    let long : length ds ≡ n = omega (arith, length-take n cs) in
+    let empty : (k : ℕ) → k < n → get_or ds k None ≡ None = λ k h. c.loop-change.invariant k (omega (arith, length-take n cs)) in
     record {
-      changes = end_changes cs ds bs n all c.loop-cell.invariant;
-      values = end_values cs ds bs n all c.loop-cell.invariant;
-      past = end_past cs ds bs n all c.loop-cell.invariant;
+      changes = end_changes cs ds bs n all long empty;
+      values = end_values cs ds bs n all long empty;
+      past = end_past cs ds bs n all long empty;
     }

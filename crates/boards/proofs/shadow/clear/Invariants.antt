@@ -1,7 +1,6 @@
--- The places before the cell are empty, and the others as they were.
-use Rattle.std.proofs.Common.{◌≡◌}
-use Rattle.boards.specs.Shadow.{cleared}
+-- The places before the turn's own are empty.
+use Rattle.std.proofs.Common.{◌≡◌, ℕ, ◌<◌, get_or, None}
 use Rattle.boards.proofs.shadow.clear.Given as goal
 
-abbrev pub invariant-loop-cell : goal.invariant-loop-cell
-invariant-loop-cell g l = l.changes ≡ cleared l.cell l.initial.changes
+abbrev pub invariant-loop-change : goal.invariant-loop-change
+invariant-loop-change g l = (k : ℕ) → k < l.change-index → get_or l.change-items k None ≡ None
