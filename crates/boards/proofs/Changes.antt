@@ -18,11 +18,10 @@ module _ {V : Type 0} where
   get_or-shown (c ∷ cs) (x ∷ bs) zero o b v h k = refl
   get_or-shown (c ∷ cs) (x ∷ bs) (suc i) o b v h k = get_or-shown cs bs i o b v (omega arith) (omega arith)
 
-  pub shown_at : (cs : List (Option V)) (bs : List V) (i : ℕ) (o : Option V) (b v : V) → i < min (length cs) (length bs) → o ≡ get_or cs i o → b ≡ get_or bs i b → v ≡ unwrap_or o b → gives v ≡ value_at (shown cs bs) i
-  shown_at cs bs i o b v h change base is =
+  pub shown_at : (cs : List (Option V)) (bs : List V) (i : ℕ) (o : Option V) (b v : V) → i < min (length cs) (length bs) → v ≡ unwrap_or (get_or cs i o) (get_or bs i b) → gives v ≡ value_at (shown cs bs) i
+  shown_at cs bs i o b v h is =
       let k : i < length (shown cs bs) = omega (arith, length-shown cs bs) in
-      let e : get_or (shown cs bs) i v ≡ unwrap_or (get_or cs i o) (get_or bs i b) = get_or-shown cs bs i o b v (omega arith) (omega arith) in
-      value_within (shown cs bs) i v k (cc)
+      value_within (shown cs bs) i v k (is ∙ sym (get_or-shown cs bs i o b v (omega arith) (omega arith)))
 
   pub shown_set : (cs : List (Option V)) (bs : List V) (i : ℕ) (v : V) → shown (set cs i (Some v)) bs ≡ set (shown cs bs) i v
   shown_set [] bs i v = refl

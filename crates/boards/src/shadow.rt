@@ -44,63 +44,37 @@ impl<V: Copy> Board for ShadowBoard<'_, '_, V> {
 
     ghost around = { shadow_around };
 
+    // the cells that have both a place and a base value
     fn count(&self) -> usize {
-        counted(self.changes, self.base)
+        self.changes.len().min(self.base.len())
     }
 
     fn get(&self, cell: usize) -> Result<V, Refusal> {
-        seen(self.changes, self.base, cell)
+        if cell < self.base.len().min(self.changes.len()) {
+            Ok(self.changes[cell].unwrap_or(self.base[cell]))
+        } else {
+            Err(Refusal::NoSuchCell)
+        }
     }
 
     fn set(&mut self, cell: usize, value: V) -> Result<(), Refusal> {
-        let base = self.base;
-        change(self.changes, base, cell, value)
+        if cell < self.base.len().min(self.changes.len()) {
+            self.changes[cell] = Some(value);
+            Ok(())
+        } else {
+            Err(Refusal::NoSuchCell)
+        }
     }
 }
 
-// How many cells have both a place and a base value.
-fn counted<V: Copy>(changes: &[Option<V>], base: &[V]) -> usize
-    ensures values { result ≡ length (shown changes.now base.now) }
-    ensures shorter { result ≡ min (length changes.now) (length base.now) }
-{
-    changes.len().min(base.len())
-}
-
-fn seen<V: Copy>(changes: &[Option<V>], base: &[V], cell: usize) -> Result<V, Refusal>
-    ensures { told result ≡ value_at (shown changes.now base.now) cell }
-{
-    if cell < counted(changes, base) {
-        Ok(changes[cell].unwrap_or(base[cell]))
-    } else {
-        Err(Refusal::NoSuchCell)
-    }
-}
-
-fn change<V: Copy>(
-    changes: &mut [Option<V>],
-    base: &[V],
-    cell: usize,
-    value: V,
-) -> Result<(), Refusal>
-    ensures answer { told result ≡ cell_there (shown changes.old base.now) cell }
-    ensures values { shown changes.new base.now ≡ slice_set (shown changes.old base.now) cell value }
-    ensures past { drop (length base.now) changes.new ≡ drop (length base.now) changes.old }
-{
-    if cell < counted(changes, base) {
-        changes[cell] = Some(value);
-        Ok(())
-    } else {
-        Err(Refusal::NoSuchCell)
-    }
-}
-
+// Empties the places of all cells.
 fn clear<V: Copy>(changes: &mut [Option<V>], base: &[V])
     ensures changes { changes.new ≡ cleared (length base.now) changes.old }
     ensures values { shown changes.new base.now ≡ take (length changes.old) base.now }
     ensures past { drop (length base.now) changes.new ≡ drop (length base.now) changes.old }
 {
-    let count = counted(changes, base);
-    for change in changes[..count].iter_mut() {
+    let cells = base.len().min(changes.len());
+    for change in changes[..cells].iter_mut() {
         *change = None;
     }
 }

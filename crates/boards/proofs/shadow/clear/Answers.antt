@@ -9,8 +9,8 @@ returns g c =
     let cs = c.args.changes.now in
     let ds = c.loop-change.change-items in
     let bs = c.args.base.now in
-    let n = c.counted-count.result in
-    let all : n ≡ min (length cs) (length bs) = c.counted-count.ensures.shorter in
+    let n = c.min-cells.result in
+    let all : n ≡ min (length cs) (length bs) = omega arith in
     let long : length ds ≡ n = omega (arith, length-take n cs) in
     let empty : (k : ℕ) → k < n → get_or ds k None ≡ None = λ k h. c.loop-change.invariant k (omega (arith, length-take n cs)) in
     record {
