@@ -1,5 +1,6 @@
-//! The lists that a program lends to the planner, made on the heap at their full lengths.
+//! What a program lends to the planner: a sheet's bytes, and lists made on the heap at their full lengths.
 
 #![tactic(auto)]
 
 pub mod lists;
+pub mod sheet;

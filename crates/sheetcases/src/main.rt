@@ -5,6 +5,7 @@
 
 #![tactic(auto)]
 
+use desk::lists::Desk;
 use desk::lists::laying::lay_out;
 use kinds::feeders::Feeders;
 use kinds::stands::Stands;
@@ -12,6 +13,7 @@ use planner::kind::YardKind;
 use planner::kind::choosing::kind_of;
 use sheets::read::read;
 use std::alloc::{AllocError, Global};
+use yard::full::{CELLS, CHOICES, MOVES, STEPS};
 use yard::kind::Kind;
 
 fn main(rt: HostRuntime) -> anyhow::Result<()> {
@@ -22,8 +24,8 @@ fn run(rt: &HostRuntime) -> anyhow::Result<()> {
     for line in rt.lines(rt.alloc()) {
         let line = line?;
         let (short, text) = match line.as_bytes() {
-            [b'!', list, rest @ ..] => (*list, rest),
-            text => (b' ', text),
+            [b'!', list, rest @ ..] => (Short::of_letter(*list), rest),
+            text => (None, text),
         };
         let sheet = unfolded(rt.alloc(), text)?;
         match kind_of(&sheet) {
@@ -34,23 +36,42 @@ fn run(rt: &HostRuntime) -> anyhow::Result<()> {
     Ok(())
 }
 
+/// The list that is one entry short.
+#[derive(Clone, Copy)]
+enum Short {
+    Values,
+    Moves,
+    Steps,
+    Choices,
+}
+
+impl Short {
+    fn of_letter(letter: u8) -> Option<Short> {
+        match letter {
+            b'v' => Some(Short::Values),
+            b'm' => Some(Short::Moves),
+            b's' => Some(Short::Steps),
+            b'c' => Some(Short::Choices),
+            _ => None,
+        }
+    }
+
+    // Takes the last entry from the list.
+    fn shorten<V: Drop>(self, desk: &mut Desk<V>) {
+        match self {
+            Short::Values => desk.values.truncate(CELLS - 1),
+            Short::Moves => desk.moves.truncate(MOVES - 1),
+            Short::Steps => desk.steps.truncate(STEPS - 1),
+            Short::Choices => desk.choices.truncate(CHOICES - 1),
+        }
+    }
+}
+
 // Reads one sheet and writes its counts or its slip.
-fn tell<K: Kind>(rt: &HostRuntime, short: u8, sheet: &[u8]) -> anyhow::Result<()> {
+fn tell<K: Kind>(rt: &HostRuntime, short: Option<Short>, sheet: &[u8]) -> anyhow::Result<()> {
     let mut desk = lay_out::<K>(rt.alloc())?;
-    match short {
-        b'v' => {
-            let _ = desk.values.pop();
-        }
-        b'm' => {
-            let _ = desk.moves.pop();
-        }
-        b's' => {
-            let _ = desk.steps.pop();
-        }
-        b'c' => {
-            let _ = desk.choices.pop();
-        }
-        _ => {}
+    if let Some(short) = short {
+        short.shorten(&mut desk);
     }
     match read::<K>(
         sheet,
@@ -71,48 +92,54 @@ fn tell<K: Kind>(rt: &HostRuntime, short: u8, sheet: &[u8]) -> anyhow::Result<()
     Ok(())
 }
 
+// What the bytes of a line are read as.
+#[derive(Clone, Copy)]
+enum Reading {
+    Text,
+    // how many of the next byte
+    Times,
+    // a byte's two digits, and the first of them once it is read
+    Code(Option<u8>),
+}
+
 // The bytes that a line stands for.
 fn unfolded(heap: Global, text: &[u8]) -> Result<Vec<u8>, AllocError> {
     let mut sheet = Vec::new(heap);
+    let mut reading = Reading::Text;
     let mut times: u32 = 0;
-    let mut counting = false;
-    let mut code: u8 = 0;
-    let mut digits = 0;
     for byte in text {
-        if counting {
-            match byte {
-                b'0'..=b'9' => times = times.wrapping_mul(10).wrapping_add(u32::from(*byte & 15)),
-                _ => counting = false,
+        reading = match (reading, byte) {
+            (Reading::Times, b'0'..=b'9') => {
+                times = times.wrapping_mul(10).wrapping_add(u32::from(*byte & 15));
+                Reading::Times
             }
-        } else if digits > 0 {
-            code = code.wrapping_mul(16).wrapping_add(hexadecimal(*byte));
-            digits -= 1;
-            if digits == 0 {
-                sheet.push(code)?;
+            (Reading::Times, _) => Reading::Text,
+            (Reading::Code(None), digit) => Reading::Code(Some(hexadecimal(*digit))),
+            (Reading::Code(Some(high)), digit) => {
+                sheet.push(high << 4 | hexadecimal(*digit))?;
+                Reading::Text
             }
-        } else {
-            match byte {
-                b'/' => sheet.push(10)?,
-                b'%' => {
-                    code = 0;
-                    digits = 2;
-                }
-                b'<' => {
-                    times = 0;
-                    counting = true;
-                }
-                _ => {
-                    for _ in 0..times.max(1) {
-                        sheet.push(*byte)?;
-                    }
-                    times = 0;
-                }
+            (Reading::Text, b'/') => {
+                sheet.push(b'\n')?;
+                Reading::Text
             }
-        }
+            (Reading::Text, b'%') => Reading::Code(None),
+            (Reading::Text, b'<') => {
+                times = 0;
+                Reading::Times
+            }
+            (Reading::Text, _) => {
+                let length = sheet.len().saturating_add(times.max(1) as usize);
+                sheet.resize(length, *byte)?;
+                times = 0;
+                Reading::Text
+            }
+        };
     }
     Ok(sheet)
 }
 
+// The value of a digit, whose letters are small.
 fn hexadecimal(byte: u8) -> u8 {
     match byte {
         b'0'..=b'9' => byte - b'0',

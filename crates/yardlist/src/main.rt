@@ -2,21 +2,16 @@
 
 #![tactic(auto)]
 
+use desk::sheet::read_sheet;
 use listings::listing::FULL_LENGTH;
 use planner::plan::plan;
-use sheets::read::MOST_BYTES;
-use std::io::Read;
 
 fn main(rt: HostRuntime) -> anyhow::Result<()> {
     run(&rt)
 }
 
 fn run(rt: &HostRuntime) -> anyhow::Result<()> {
-    let mut sheet = Vec::new(rt.alloc());
-    // one byte more than a sheet may have, so that a longer one is seen to be too long
-    rt.stdin()
-        .take(MOST_BYTES as u64 + 1)
-        .read_to_end(&mut sheet)?;
+    let sheet = read_sheet(rt.stdin(), rt.alloc())?;
     let mut listing = vec![in rt.alloc(); 0; FULL_LENGTH]?;
     match plan(&sheet, &mut listing) {
         Ok(count) => {

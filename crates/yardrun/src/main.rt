@@ -4,13 +4,13 @@
 
 use desk::lists::Desk;
 use desk::lists::laying::lay_out;
+use desk::sheet::read_sheet;
 use kinds::feeders::Feeders;
 use kinds::stands::Stands;
 use planner::kind::YardKind;
 use planner::kind::choosing::kind_of;
 use sheets::counts::Counts;
-use sheets::read::{MOST_BYTES, read};
-use std::io::Read;
+use sheets::read::read;
 use yard::kind::Kind;
 
 fn main(rt: HostRuntime) -> anyhow::Result<()> {
@@ -18,11 +18,7 @@ fn main(rt: HostRuntime) -> anyhow::Result<()> {
 }
 
 fn run(rt: &HostRuntime) -> anyhow::Result<()> {
-    let mut sheet = Vec::new(rt.alloc());
-    // one byte more than a sheet may have, so that a longer one is seen to be too long
-    rt.stdin()
-        .take(MOST_BYTES as u64 + 1)
-        .read_to_end(&mut sheet)?;
+    let sheet = read_sheet(rt.stdin(), rt.alloc())?;
     match kind_of(&sheet) {
         YardKind::Stands => tell::<Stands>(rt, "stands", &sheet),
         YardKind::Feeders => tell::<Feeders>(rt, "feeders", &sheet),
@@ -55,14 +51,9 @@ fn tell<K: Kind>(rt: &HostRuntime, kind: &str, sheet: &[u8]) -> anyhow::Result<(
 
 fn tell_moves<V: Drop>(rt: &HostRuntime, counts: Counts, desk: &Desk<V>) -> anyhow::Result<()> {
     println!(rt; "{} moves, {} steps", counts.moves, counts.steps)?;
-    for found in desk.moves.iter().take(counts.moves as usize) {
+    for found in desk.moves.iter().take(usize::from(counts.moves)) {
         print!(rt; "  {}:", found.label)?;
-        for step in desk
-            .steps
-            .iter()
-            .skip(found.first as usize)
-            .take(found.count as usize)
-        {
+        for step in found.steps(&desk.steps) {
             print!(rt; " {} {} {}", step.order.letter, step.cell, step.order.number)?;
         }
         println!(rt; "")?;
@@ -72,7 +63,7 @@ fn tell_moves<V: Drop>(rt: &HostRuntime, counts: Counts, desk: &Desk<V>) -> anyh
 
 fn tell_choices<V: Drop>(rt: &HostRuntime, counts: Counts, desk: &Desk<V>) -> anyhow::Result<()> {
     print!(rt; "{} choices:", counts.choices)?;
-    for choice in desk.choices.iter().take(counts.choices as usize) {
+    for choice in desk.choices.iter().take(usize::from(counts.choices)) {
         print!(rt; " {choice}")?;
     }
     println!(rt; "")?;

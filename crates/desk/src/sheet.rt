@@ -1,0 +1,33 @@
+//! Reading the bytes of a sheet from where a program is given them.
+
+ghost use Rattle.std.specs.Prelude.{◌≡◌, take, IfOk, IfSome, vec_items};
+
+use sheets::read::MOST_BYTES;
+use std::alloc::Global;
+use std::io::{self, Read};
+
+/// The bytes of a sheet, and one byte more than a sheet may have, so that a longer one is seen to be too long.
+pub fn read_sheet<R: Read + Drop>(input: R, heap: Global) -> io::Result<Vec<u8>>
+    ensures { IfOk result (λ sheet. IfSome (R.remaining input) (λ bytes. vec_items sheet ≡ take 32769 bytes)) }
+{
+    let mut sheet = Vec::new(heap);
+    let mut front = input.take(MOST_BYTES as u64 + 1);
+    front.read_to_end(&mut sheet)?;
+    Ok(sheet)
+}
+
+#[cfg(test)]
+mod tests {
+    use super::*;
+    use std::test::Fail;
+
+    #[test]
+    fn one_byte_more_than_a_sheet_may_have(rt: HostRuntime) -> Result<(), Fail> {
+        let long = vec![in rt.alloc(); b'x'; 40000]?;
+        let sheet = read_sheet(long.as_slice(), rt.alloc())?;
+        assert_eq!(rt; sheet.len(), 32769);
+        let sheet = read_sheet(&long[..5], rt.alloc())?;
+        assert_eq!(rt; sheet.len(), 5);
+        Ok(())
+    }
+}
