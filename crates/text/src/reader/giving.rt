@@ -6,7 +6,7 @@ ghost use Rattle.text.specs.Reading.{here, past_word, number_at, number_within, 
 ghost use Rattle.text.specs.Words.{seen, sorted};
 
 use super::Reader;
-use crate::faults::{AtWord, LineFault, WordFault, at_word};
+use crate::faults::{At, LineFault, WordFault, fault_at};
 use crate::lines::{LF, first_line, first_word, has_words};
 use crate::words::{Word, sort_word};
 
@@ -55,24 +55,24 @@ impl<'a> Reader<'a> {
     }
 
     /// The next word, which is word `word` of its line, as a number.
-    pub fn number(&mut self, word: usize) -> Result<u16, AtWord>
+    pub fn number(&mut self, word: usize) -> Result<u16, At<WordFault>>
         ensures answer { result ≡ number_at word (here self.old) }
         ensures sheet { self.new.sheet ≡ self.old.sheet }
         ensures here { here self.new ≡ past_word (here self.old) }
     {
-        at_word(self.next_word().number(), word)
+        fault_at(self.next_word().number(), word)
     }
 
     /// A number from `least` to `most`.
-    pub fn number_within(&mut self, word: usize, least: u16, most: u16) -> Result<u16, AtWord>
+    pub fn number_within(&mut self, word: usize, least: u16, most: u16) -> Result<u16, At<WordFault>>
         ensures answer { result ≡ number_within word least most (here self.old) }
         ensures sheet { self.new.sheet ≡ self.old.sheet }
         ensures here { here self.new ≡ past_word (here self.old) }
     {
         let number = self.number(word)?;
         if number < least || number > most {
-            return Err(AtWord {
-                word,
+            return Err(At {
+                number: word,
                 fault: WordFault::OutOfRange,
             });
         }
@@ -80,15 +80,15 @@ impl<'a> Reader<'a> {
     }
 
     /// A number below `end`.
-    pub fn number_below(&mut self, word: usize, end: u16) -> Result<u16, AtWord>
+    pub fn number_below(&mut self, word: usize, end: u16) -> Result<u16, At<WordFault>>
         ensures answer { result ≡ number_below word end (here self.old) }
         ensures sheet { self.new.sheet ≡ self.old.sheet }
         ensures here { here self.new ≡ past_word (here self.old) }
     {
         let number = self.number(word)?;
         if number >= end {
-            return Err(AtWord {
-                word,
+            return Err(At {
+                number: word,
                 fault: WordFault::OutOfRange,
             });
         }
@@ -96,24 +96,24 @@ impl<'a> Reader<'a> {
     }
 
     /// The next word as a letter.
-    pub fn letter(&mut self, word: usize) -> Result<char, AtWord>
+    pub fn letter(&mut self, word: usize) -> Result<char, At<WordFault>>
         ensures answer { result ≡ letter_at word (here self.old) }
         ensures sheet { self.new.sheet ≡ self.old.sheet }
         ensures here { here self.new ≡ past_word (here self.old) }
     {
-        at_word(self.next_word().letter(), word)
+        fault_at(self.next_word().letter(), word)
     }
 
     /// The next word has to be this letter.
-    pub fn letter_is(&mut self, word: usize, letter: char) -> Result<char, AtWord>
+    pub fn letter_is(&mut self, word: usize, letter: char) -> Result<char, At<WordFault>>
         ensures answer { result ≡ letter_is word letter (here self.old) }
         ensures sheet { self.new.sheet ≡ self.old.sheet }
         ensures here { here self.new ≡ past_word (here self.old) }
     {
         let found = self.letter(word)?;
         if found != letter {
-            return Err(AtWord {
-                word,
+            return Err(At {
+                number: word,
                 fault: WordFault::WrongLetter,
             });
         }
