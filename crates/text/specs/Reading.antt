@@ -5,7 +5,7 @@ use Rattle.text.specs.declared.faults.At.{At}
 use Rattle.text.specs.declared.faults.WordFault.{WordFault}
 use Rattle.text.specs.declared.reader.Reader.{Reader}
 use Rattle.text.specs.Faults.{on_err, and_then, at_number}
-use Rattle.text.specs.Lines.{up_to, word_of}
+use Rattle.text.specs.Lines.{word_length, word_of}
 use Rattle.text.specs.Numerals.{number_of}
 use Rattle.text.specs.Words.{letter_of}
 
@@ -26,8 +26,8 @@ nothing_left h = length h.bytes == 0
 -- past the next word and the space or LF after it; after an LF begins a line
 abbrev pub past_word : Here → Here
 past_word h = record {
-  line = h.line + cond (slice_index h.bytes (up_to 32 10 h.bytes) == 10) 1 0;
-  bytes = drop (up_to 32 10 h.bytes + 1) h.bytes;
+  line = h.line + cond (slice_index h.bytes (word_length h.bytes) == 10) 1 0;
+  bytes = drop (word_length h.bytes + 1) h.bytes;
 }
 
 -- past so many words

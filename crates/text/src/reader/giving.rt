@@ -1,7 +1,7 @@
 //! What the reader gives: whether its line is as it should be, and the words of the line, one after another.
 
 ghost use Rattle.std.specs.Prelude.{◌≡◌, ◌≤◌, length as size};
-ghost use Rattle.text.specs.Lines.{line_there, up_to, word_of};
+ghost use Rattle.text.specs.Lines.{line_there, word_length, word_of};
 ghost use Rattle.text.specs.Reading.{here, past_word, number_at, number_within, number_below, letter_at, letter_is};
 ghost use Rattle.text.specs.Words.{seen, sorted};
 
@@ -38,7 +38,7 @@ impl<'a> Reader<'a> {
 
     // Past the next word, which has `length` bytes, and the space or LF after it.
     fn pass(&mut self, length: usize)
-        requires word { length ≡ up_to 32 10 (here self.old).bytes }
+        requires word { length ≡ word_length (here self.old).bytes }
         requires within { length ≤ size (here self.old).bytes }
         ensures sheet { self.new.sheet ≡ self.old.sheet }
         ensures here { here self.new ≡ past_word (here self.old) }
@@ -64,7 +64,12 @@ impl<'a> Reader<'a> {
     }
 
     /// A number from `least` to `most`.
-    pub fn number_within(&mut self, word: usize, least: u16, most: u16) -> Result<u16, At<WordFault>>
+    pub fn number_within(
+        &mut self,
+        word: usize,
+        least: u16,
+        most: u16,
+    ) -> Result<u16, At<WordFault>>
         ensures answer { result ≡ number_within word least most (here self.old) }
         ensures sheet { self.new.sheet ≡ self.old.sheet }
         ensures here { here self.new ≡ past_word (here self.old) }
