@@ -1,8 +1,10 @@
 //! What the reader gives: whether its line is as it should be, and the words of the line, one after another.
 
-ghost use Rattle.std.specs.Prelude.{◌≡◌, ◌≤◌, length as size};
+ghost use Rattle.std.specs.Prelude.{◌≡◌, ◌≤◌, Bool, length as size};
+ghost use Rattle.std.specs.Fn.{FnOnceReturnsAt, FnOnceTakesAt};
+ghost use Rattle.text.specs.Faults.{at_number};
 ghost use Rattle.text.specs.Lines.{line_there, word_length, word_of};
-ghost use Rattle.text.specs.Reading.{here, past_word, number_at, number_within, number_below, letter_at, letter_is};
+ghost use Rattle.text.specs.Reading.{here, past_word, number_at, number_within, number_below, letter_at, letter_is, passing};
 ghost use Rattle.text.specs.Words.{seen, sorted};
 
 use super::Reader;
@@ -75,13 +77,7 @@ impl<'a> Reader<'a> {
         ensures here { here self.new ≡ past_word (here self.old) }
     {
         let number = self.number(word)?;
-        if number < least || number > most {
-            return Err(At {
-                number: word,
-                fault: WordFault::OutOfRange,
-            });
-        }
-        Ok(number)
+        passing(number, |n| (least..=most).contains(n), word, WordFault::OutOfRange)
     }
 
     /// A number below `end`.
@@ -91,13 +87,7 @@ impl<'a> Reader<'a> {
         ensures here { here self.new ≡ past_word (here self.old) }
     {
         let number = self.number(word)?;
-        if number >= end {
-            return Err(At {
-                number: word,
-                fault: WordFault::OutOfRange,
-            });
-        }
-        Ok(number)
+        passing(number, |n| *n < end, word, WordFault::OutOfRange)
     }
 
     /// The next word as a letter.
@@ -116,12 +106,23 @@ impl<'a> Reader<'a> {
         ensures here { here self.new ≡ past_word (here self.old) }
     {
         let found = self.letter(word)?;
-        if found != letter {
-            return Err(At {
-                number: word,
-                fault: WordFault::WrongLetter,
-            });
-        }
-        Ok(found)
+        passing(found, |l| *l == letter, word, WordFault::WrongLetter)
     }
+}
+
+// What was read as this word of the line, if it passes the test; else the word has this fault.
+fn passing<T, P: FnOnce(&T) -> bool>(
+    found: T,
+    passes: P,
+    word: usize,
+    fault: WordFault,
+) -> Result<T, At<WordFault>>
+where
+    T: Drop,
+    requires { FnOnceTakesAt P.FnOnce passes found }
+    ensures { (b : Bool) × FnOnceReturnsAt P.FnOnce passes found b × (result ≡ passing b (at_number word fault) found) }
+{
+    Some(found)
+        .filter(passes)
+        .ok_or(At { number: word, fault })
 }
