@@ -17,9 +17,7 @@ impl<'a> Reader<'a> {
     pub fn line_there(&self, count: usize) -> Result<(), LineFault>
         ensures { result ≡ line_there count (here self.now).bytes }
     {
-        let Some(line) = first_line(self.rest()) else {
-            return Err(LineFault::Lacking);
-        };
+        let line = first_line(self.rest()).ok_or(LineFault::Lacking)?;
         if !has_words(line, count) {
             return Err(LineFault::Shape);
         }
@@ -45,12 +43,11 @@ impl<'a> Reader<'a> {
         ensures sheet { self.new.sheet ≡ self.old.sheet }
         ensures here { here self.new ≡ past_word (here self.old) }
     {
-        let rest = self.rest();
-        if length == rest.len() {
-            self.place += length;
-        } else {
-            self.place += length + 1;
-            if rest[length] == LF {
+        let stop = self.rest().get(length);
+        self.place += length;
+        if let Some(byte) = stop {
+            self.place += 1;
+            if *byte == LF {
                 self.line += 1;
             }
         }
@@ -77,7 +74,12 @@ impl<'a> Reader<'a> {
         ensures here { here self.new ≡ past_word (here self.old) }
     {
         let number = self.number(word)?;
-        passing(number, |n| (least..=most).contains(n), word, WordFault::OutOfRange)
+        passing(
+            number,
+            |n| (least..=most).contains(n),
+            word,
+            WordFault::OutOfRange,
+        )
     }
 
     /// A number below `end`.
@@ -122,7 +124,8 @@ where
     requires { FnOnceTakesAt P.FnOnce passes found }
     ensures { (b : Bool) × FnOnceReturnsAt P.FnOnce passes found b × (result ≡ passing b (at_number word fault) found) }
 {
-    Some(found)
-        .filter(passes)
-        .ok_or(At { number: word, fault })
+    Some(found).filter(passes).ok_or(At {
+        number: word,
+        fault,
+    })
 }
