@@ -1,5 +1,5 @@
 -- What a reader has before it, and what it makes of its next word.
-use Rattle.std.specs.Prelude.{ℕ, zero, suc, ◌+◌, Bool, cond, ◌&&◌, List, length, drop, Ok, Err, Result, ◌==◌, nat_le, nat_lt, slice_index}
+use Rattle.std.specs.Prelude.{◌≡◌, ℕ, zero, suc, ◌+◌, Bool, cond, ◌&&◌, List, length, drop, Ok, Err, Result, ◌==◌, nat_le, nat_lt, slice_index}
 use Rattle.text.specs.declared.faults.WordFault.TheVariants.{OutOfRange, WrongLetter}
 use Rattle.text.specs.declared.faults.At.{At}
 use Rattle.text.specs.declared.faults.WordFault.{WordFault}
@@ -29,6 +29,10 @@ past_word h = record {
   line = h.line + cond (slice_index h.bytes (word_length h.bytes) == 10) 1 0;
   bytes = drop (word_length h.bytes + 1) h.bytes;
 }
+
+-- what a reader is before and after it read a word: the sheet under it stays the same
+abbrev pub WentPastWord : Reader → Reader → Type 0
+WentPastWord before after = (after.sheet ≡ before.sheet) × (here after ≡ past_word (here before))
 
 -- past so many words
 abbrev pub past : ℕ → Here → Here

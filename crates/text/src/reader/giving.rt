@@ -4,7 +4,7 @@ ghost use Rattle.std.specs.Prelude.{◌≡◌, ◌≤◌, Bool, length as size};
 ghost use Rattle.std.specs.Fn.{FnOnceReturnsAt, FnOnceTakesAt};
 ghost use Rattle.text.specs.Faults.{at_number};
 ghost use Rattle.text.specs.Lines.{line_there, word_length, word_of};
-ghost use Rattle.text.specs.Reading.{here, past_word, number_at, number_within, number_below, letter_at, letter_is, passing};
+ghost use Rattle.text.specs.Reading.{WentPastWord, here, number_at, number_within, number_below, letter_at, letter_is, passing};
 ghost use Rattle.text.specs.Words.{seen, sorted};
 
 use super::Reader;
@@ -27,8 +27,7 @@ impl<'a> Reader<'a> {
     /// The word that begins here, and on to the next.
     pub fn next_word(&mut self) -> Word<'a>
         ensures word { seen result ≡ sorted (word_of (here self.old).bytes) self.old.place }
-        ensures sheet { self.new.sheet ≡ self.old.sheet }
-        ensures here { here self.new ≡ past_word (here self.old) }
+        ensures moved { WentPastWord self.old self.new }
     {
         let place = self.place;
         let part = first_word(self.rest());
@@ -40,8 +39,7 @@ impl<'a> Reader<'a> {
     fn pass(&mut self, length: usize)
         requires word { length ≡ word_length (here self.old).bytes }
         requires within { length ≤ size (here self.old).bytes }
-        ensures sheet { self.new.sheet ≡ self.old.sheet }
-        ensures here { here self.new ≡ past_word (here self.old) }
+        ensures moved { WentPastWord self.old self.new }
     {
         let stop = self.rest().get(length);
         self.place += length;
@@ -56,8 +54,7 @@ impl<'a> Reader<'a> {
     /// The next word, which is word `word` of its line, as a number.
     pub fn number(&mut self, word: usize) -> Result<u16, At<WordFault>>
         ensures answer { result ≡ number_at word (here self.old) }
-        ensures sheet { self.new.sheet ≡ self.old.sheet }
-        ensures here { here self.new ≡ past_word (here self.old) }
+        ensures moved { WentPastWord self.old self.new }
     {
         fault_at(self.next_word().number(), word)
     }
@@ -70,8 +67,7 @@ impl<'a> Reader<'a> {
         most: u16,
     ) -> Result<u16, At<WordFault>>
         ensures answer { result ≡ number_within word least most (here self.old) }
-        ensures sheet { self.new.sheet ≡ self.old.sheet }
-        ensures here { here self.new ≡ past_word (here self.old) }
+        ensures moved { WentPastWord self.old self.new }
     {
         let number = self.number(word)?;
         passing(
@@ -85,8 +81,7 @@ impl<'a> Reader<'a> {
     /// A number below `end`.
     pub fn number_below(&mut self, word: usize, end: u16) -> Result<u16, At<WordFault>>
         ensures answer { result ≡ number_below word end (here self.old) }
-        ensures sheet { self.new.sheet ≡ self.old.sheet }
-        ensures here { here self.new ≡ past_word (here self.old) }
+        ensures moved { WentPastWord self.old self.new }
     {
         let number = self.number(word)?;
         passing(number, |n| *n < end, word, WordFault::OutOfRange)
@@ -95,8 +90,7 @@ impl<'a> Reader<'a> {
     /// The next word as a letter.
     pub fn letter(&mut self, word: usize) -> Result<char, At<WordFault>>
         ensures answer { result ≡ letter_at word (here self.old) }
-        ensures sheet { self.new.sheet ≡ self.old.sheet }
-        ensures here { here self.new ≡ past_word (here self.old) }
+        ensures moved { WentPastWord self.old self.new }
     {
         fault_at(self.next_word().letter(), word)
     }
@@ -104,8 +98,7 @@ impl<'a> Reader<'a> {
     /// The next word has to be this letter.
     pub fn letter_is(&mut self, word: usize, letter: char) -> Result<char, At<WordFault>>
         ensures answer { result ≡ letter_is word letter (here self.old) }
-        ensures sheet { self.new.sheet ≡ self.old.sheet }
-        ensures here { here self.new ≡ past_word (here self.old) }
+        ensures moved { WentPastWord self.old self.new }
     {
         let found = self.letter(word)?;
         passing(found, |l| *l == letter, word, WordFault::WrongLetter)
