@@ -22,6 +22,7 @@ pub(crate) fn value_of(part: &[u8]) -> Result<u16, WordFault>
 {
     let mut value: u16 = 0;
     for byte in part {
+        // saturating, since whoever makes a `Word` of their own may put any bytes into it
         let digit = u16::from(byte.saturating_sub(b'0'));
         value = value
             .checked_mul(10)

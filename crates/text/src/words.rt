@@ -6,6 +6,7 @@ ghost use Rattle.text.specs.Words.{seen, sorted, number_seen, letter_seen};
 use crate::faults::WordFault;
 use crate::numerals::{is_numeral, value_of};
 
+/// What the bytes of a word are: one capital letter, a numeral, or neither.
 #[derive(Clone, Copy, Debug, PartialEq)]
 pub enum Sort {
     Letter,
