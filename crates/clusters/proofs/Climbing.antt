@@ -1,7 +1,7 @@
 -- Climbing from a cell to its root, and what a write at a root does to all roots.
-use Rattle.std.proofs.Common.{◌≡◌, ℕ, zero, suc, ◌+◌, ◌<◌, ◌≤◌, cond, eqb, ◌≢◌, ◌⊎◌, List, length, get_or, set, Some, None, unwrap_or, sym, refl, ap, ◌∙◌, inl, inr, arith}
+use Rattle.std.proofs.Common.{◌≡◌, ℕ, zero, suc, ◌+◌, ◌<◌, ◌≤◌, min, max, cond, eqb, ◌≢◌, ◌⊎◌, List, length, get_or, set, Some, None, unwrap_or, sym, refl, ap, ◌∙◌, inl, inr, arith}
 use Rattle.std.proofs.lemmas.List.{length-set, get_or-set_same, get_or-set_other, get_or_past}
-use Rattle.std.proofs.lemmas.Bool.{cases_eq}
+use Rattle.std.proofs.lemmas.Bool.{cases_eq, cases_lt}
 use Rattle.std.proofs.lemmas.Bool.Decides.{nat_tests}
 use Rattle.clusters.specs.Roots.{above_of, up_of, climb, root_of, fused}
 
@@ -13,11 +13,6 @@ up_cases ps x = grind (arith, nat_tests)
 pub up_past : (ps : List ℕ) (x : ℕ) → length ps ≤ x → up_of ps x ≡ x
 unfolding up_of
 up_past ps x h = rw (get_or_past ps x 0 h) (grind (arith, nat_tests))
-
--- what the code's test says
-pub up_stops : (ps : List ℕ) (x : ℕ) → (get_or ps x 0 ≤ x) ⊎ (length ps ≤ get_or ps x 0) → up_of ps x ≡ x
-unfolding up_of
-up_stops ps x h = grind (arith, nat_tests)
 
 pub up_goes : (ps : List ℕ) (x : ℕ) → x < get_or ps x 0 → get_or ps x 0 < length ps → up_of ps x ≡ get_or ps x 0
 unfolding up_of
@@ -109,13 +104,24 @@ module _ (ps : List ℕ) (lo hi : ℕ) (less : lo < hi) (within : hi < length ps
   pub write_law : (x : ℕ) → root_of (set ps lo hi) x ≡ cond (eqb (root_of ps x) lo) hi (root_of ps x)
   write_law x = write_climb (length ps) x (omega arith)
 
--- the write of the higher of two roots at the lower fuses them
-pub write_fuses : (ps : List ℕ) (lo hi : ℕ) → lo < hi → hi < length ps → up_of ps lo ≡ lo → up_of ps hi ≡ hi → (x : ℕ) →
-    root_of (set ps lo hi) x ≡ fused lo hi (root_of ps x)
-write_fuses ps lo hi l h p q x = rw (write_law ps lo hi l h p q x) (grind (arith, nat_tests))
+module _ (ps : List ℕ) (p q : ℕ) (p_top : up_of ps p ≡ p) (q_top : up_of ps q ≡ q) where
+  min_top : up_of ps (min p q) ≡ min p q
+  min_top =
+      elim (cases_lt q p) [
+        | inl l ↦ let e : min p q ≡ q = omega arith in rw e q_top
+        | inr g ↦ let e : min p q ≡ p = omega arith in rw e p_top
+      ]
 
-pub fused_swap : (p q r : ℕ) → fused p q r ≡ fused q p r
-fused_swap p q r = grind (arith, nat_tests)
+  max_top : up_of ps (max p q) ≡ max p q
+  max_top =
+      elim (cases_lt q p) [
+        | inl l ↦ let e : max p q ≡ p = omega arith in rw e p_top
+        | inr g ↦ let e : max p q ≡ q = omega arith in rw e q_top
+      ]
+
+  -- the write of the higher of two roots at the lower fuses them
+  pub write_fuses : min p q < max p q → max p q < length ps → (x : ℕ) → root_of (set ps (min p q) (max p q)) x ≡ fused p q (root_of ps x)
+  write_fuses l h x = rw (write_law ps (min p q) (max p q) l h min_top max_top x) (grind (arith, nat_tests))
 
 pub fused_same : (p q r : ℕ) → p ≡ q → r ≡ fused p q r
 fused_same p q r e = grind (arith, nat_tests)
@@ -128,14 +134,3 @@ find_goes ps x u r e g = g ∙ ap (root_of ps) (ap (λ o. unwrap_or o x) e) ∙ 
 pub find_stops : (ps : List ℕ) (x : ℕ) → None ≡ above_of ps x → x ≡ root_of ps x
 unfolding up_of
 find_stops ps x e = sym (root_stays ps x (sym (ap (λ o. unwrap_or o x) e)))
-
--- the law of a join, by the cells that are joined; either may have the lower root
-pub join_law : (ps : List ℕ) (a b lo hi : ℕ) → lo ≡ root_of ps a → hi ≡ root_of ps b → lo < hi → hi < length ps → (x : ℕ) →
-    root_of (set ps lo hi) x ≡ fused (root_of ps a) (root_of ps b) (root_of ps x)
-join_law ps a b lo hi p q l h x =
-    rw (← p, ← q) (write_fuses ps lo hi l h (rw p (root_top ps a)) (rw q (root_top ps b)) x)
-
-pub join_law_back : (ps : List ℕ) (a b lo hi : ℕ) → lo ≡ root_of ps b → hi ≡ root_of ps a → lo < hi → hi < length ps → (x : ℕ) →
-    root_of (set ps lo hi) x ≡ fused (root_of ps a) (root_of ps b) (root_of ps x)
-join_law_back ps a b lo hi p q l h x =
-    join_law ps b a lo hi p q l h x ∙ fused_swap (root_of ps b) (root_of ps a) (root_of ps x)

@@ -2,8 +2,9 @@
 use Rattle.std.proofs.Common.{◌≡◌, ℕ, ◌<◌, ◌≤◌, min, max, List, map, length, get_or, set, sym, refl, ap, ◌∙◌, inl, inr, arith}
 use Rattle.std.proofs.lemmas.List.{same_lists, get_or-map, length-map, length-set}
 use Rattle.std.proofs.lemmas.List.FromFn.{length-map-range_with_len, get_or-map-range_with_len}
-use Rattle.std.proofs.lemmas.Bool.{cases_lt, lt-ltb, le-ltb, le-leb}
-use Rattle.clusters.proofs.Climbing.{root_below, join_law, join_law_back, fused_same}
+use Rattle.std.proofs.lemmas.Bool.{cases_lt}
+use Rattle.std.proofs.lemmas.Bool.Decides.{nat_tests}
+use Rattle.clusters.proofs.Climbing.{root_below, root_top, write_fuses, fused_same}
 use Rattle.clusters.specs.Roots.{root_of, roots_of, fused, put_under, joined, joined_roots}
 
 pub length-roots_of : (ps : List ℕ) → length (roots_of ps) ≡ length ps
@@ -14,21 +15,12 @@ pub get_or-roots_of : (ps : List ℕ) (x d : ℕ) → x < length ps → get_or (
 unfolding roots_of
 get_or-roots_of ps x d h = get_or-map-range_with_len (root_of ps) 0 (length ps) x x d h (omega arith)
 
--- what a join writes, by how the two roots compare
-put_low : (ps : List ℕ) (p q : ℕ) → p < q → q < length ps → length ps ≤ 65536 → put_under (min p q) (max p q) ps ≡ set ps p q
-put_low ps p q l h s =
-    let e : min p q ≡ p = omega arith in
-    let f : max p q ≡ q = omega arith in
-    rw (e, f, lt-ltb p q l, lt-ltb q (length ps) h, le-leb q 65535 (omega arith))
+-- a join writes where the two roots differ
+put_apart : (ps : List ℕ) (low high : ℕ) → low < high → high < length ps → length ps ≤ 65536 → put_under low high ps ≡ set ps low high
+put_apart ps low high l h s = grind (arith, nat_tests)
 
-put_high : (ps : List ℕ) (p q : ℕ) → q < p → p < length ps → length ps ≤ 65536 → put_under (min p q) (max p q) ps ≡ set ps q p
-put_high ps p q l h s =
-    let e : min p q ≡ q = omega arith in
-    let f : max p q ≡ p = omega arith in
-    rw (e, f, lt-ltb q p l, lt-ltb p (length ps) h, le-leb p 65535 (omega arith))
-
-put_none : (ps : List ℕ) (p q : ℕ) → p ≡ q → put_under (min p q) (max p q) ps ≡ ps
-put_none ps p q d = rw (le-ltb (min p q) (max p q) (omega arith))
+put_none : (ps : List ℕ) (low high : ℕ) → high ≤ low → put_under low high ps ≡ ps
+put_none ps low high l = grind (arith, nat_tests)
 
 -- from each cell to the list
 pub joined_lists : (ps qs : List ℕ) (a b : ℕ) → length qs ≡ length ps → a < length ps → b < length ps →
@@ -53,17 +45,14 @@ join_roots ps a b ha hb small =
     let q = root_of ps b in
     let hp : p < length ps = root_below ps a ha in
     let hq : q < length ps = root_below ps b hb in
-    elim (cases_lt p q) [
+    elim (cases_lt (min p q) (max p q)) [
       | inl l ↦
-          let e : joined a b ps ≡ set ps p q = put_low ps p q l hq small in
-          ap roots_of e ∙ joined_lists ps (set ps p q) a b (length-set ps p q) ha hb (join_law ps a b p q refl refl l hq)
+          let within : max p q < length ps = omega arith in
+          let e : joined a b ps ≡ set ps (min p q) (max p q) = put_apart ps (min p q) (max p q) l within small in
+          ap roots_of e
+          ∙ joined_lists ps (set ps (min p q) (max p q)) a b (length-set ps (min p q) (max p q)) ha hb
+          (write_fuses ps p q (root_top ps a) (root_top ps b) l within)
       | inr g ↦
-          elim (cases_lt q p) [
-            | inl l ↦
-                let e : joined a b ps ≡ set ps q p = put_high ps p q l hp small in
-                ap roots_of e ∙ joined_lists ps (set ps q p) a b (length-set ps q p) ha hb (join_law_back ps a b q p refl refl l hp)
-            | inr h ↦
-                let e : joined a b ps ≡ ps = put_none ps p q (omega arith) in
-                ap roots_of e ∙ joined_lists ps ps a b refl ha hb (λ x. fused_same p q (root_of ps x) (omega arith))
-          ]
+          let e : joined a b ps ≡ ps = put_none ps (min p q) (max p q) g in
+          ap roots_of e ∙ joined_lists ps ps a b refl ha hb (λ x. fused_same p q (root_of ps x) (omega arith))
     ]

@@ -18,15 +18,10 @@ fn above(parents: &[u16], cell: usize) -> Option<usize>
     ensures parent { result ≡ above_of parents.now cell }
     ensures higher { IfSome result (λ up. (cell < up) × (up < length parents.now)) }
 {
-    if cell >= parents.len() {
-        return None;
-    }
-    let up = usize::from(parents[cell]);
-    if up > cell && up < parents.len() {
-        Some(up)
-    } else {
-        None
-    }
+    parents
+        .get(cell)
+        .map(|parent| usize::from(*parent))
+        .filter(|up| *up > cell && *up < parents.len())
 }
 
 /// Joins the clusters of two cells: the lower of their roots goes under the higher.
@@ -42,8 +37,11 @@ pub fn join(parents: &mut [u16], one: usize, other: usize)
 fn put_under(parents: &mut [u16], low: usize, high: usize)
     ensures { parents.new ≡ put_under low high parents.old }
 {
-    if low < high && high < parents.len() && high <= 65535 {
-        parents[low] = high as u16;
+    if low < high
+        && high < parents.len()
+        && let Ok(parent) = u16::try_from(high)
+    {
+        parents[low] = parent;
     }
 }
 

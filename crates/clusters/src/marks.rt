@@ -31,6 +31,7 @@ impl<'a> Marked<'a> {
         ensures marks { self.new.marks.now ≡ slice_set self.old.marks.now cell 1 }
         ensures lent { self.new.marks.ghost_name ≡ self.old.marks.ghost_name }
     {
+        // by its index, since a slice's `get_mut` promises nothing of the list after the write
         if cell < self.marks.len() {
             self.marks[cell] = 1;
         }
@@ -39,7 +40,7 @@ impl<'a> Marked<'a> {
     pub fn is_marked(&self, cell: usize) -> bool
         ensures { result ≡ (slice_index self.now.marks.now cell == 1) }
     {
-        cell < self.marks.len() && self.marks[cell] == 1
+        self.marks.get(cell) == Some(&1)
     }
 }
 

@@ -1,39 +1,27 @@
--- A numeral looked at from the left, digit by digit.
-use Rattle.std.proofs.Common.{◌≡◌, ℕ, ◌+◌, ◌-◌, ◌*◌, ◌<◌, ◌≤◌, true, false, ◌&&◌, ◌⊎◌, List, [], ◌∷◌, length, get_or, drop, ◌∙◌, arith}
-use Rattle.std.proofs.lemmas.List.{at_drop_more, at_drop_all}
-use Rattle.std.proofs.lemmas.Bool.{lt-leb}
+-- Numerals looked at from the left, digit by digit.
+use Rattle.std.proofs.Common.{◌≡◌, ℕ, ◌+◌, ◌-◌, ◌*◌, ◌<◌, ◌≤◌, ◌≢◌, Err, List, [], ◌∷◌, length, get_or, drop, arith}
+use Rattle.std.proofs.lemmas.List.{at_drop_more}
 use Rattle.std.proofs.lemmas.Bool.Decides.{nat_tests}
-use Rattle.text.specs.Numerals.{digit, digits, worth_from, sized}
+use Rattle.std.specs.Char.{is_ascii_digit}
+use Rattle.std.specs.List.{list_all}
+use Rattle.text.specs.Numerals.{numeral, worth_from, sized}
+use Rattle.text.specs.declared.faults.WordFault.TheVariants.{TooLarge}
 
-pub on : (s : List ℕ) (i : ℕ) → i < length s → 48 ≤ get_or s i 0 → get_or s i 0 ≤ 57 → digits (drop i s) ≡ digits (drop (i + 1) s)
-on s i h low high =
-    let e : digits (drop i s) ≡ digit (get_or s i 0) && digits (drop (i + 1) s) = at_drop_more digits s i 0 h in
-    grind (arith, nat_tests)
-
-pub stopped : (s : List ℕ) (i : ℕ) → i < length s → (get_or s i 0 < 48) ⊎ (57 < get_or s i 0) → digits (drop i s) ≡ false
-stopped s i h w =
-    let e : digits (drop i s) ≡ digit (get_or s i 0) && digits (drop (i + 1) s) = at_drop_more digits s i 0 h in
-    grind (arith, nat_tests)
-
-pub ended : (s : List ℕ) (i : ℕ) → length s ≤ i → digits (drop i s) ≡ true
-ended s i h = at_drop_all digits s i h
+pub worth_on : (n : ℕ) (s : List ℕ) (i : ℕ) → i < length s → worth_from n (drop i s) ≡ worth_from (n * 10 + (get_or s i 0 - 48)) (drop (i + 1) s)
+worth_on n s i h = at_drop_more (worth_from n) s i 0 h
 
 worth_from_ge : (n : ℕ) (cs : List ℕ) → n ≤ worth_from n cs
 worth_from_ge n [] = omega arith
 worth_from_ge n (c ∷ cs) = omega (arith, worth_from_ge (n * 10 + (c - 48)) cs)
 
--- past the limit it does not matter by how much
-past : (m n : ℕ) (cs : List ℕ) → 65535 < m → 65535 < n → sized (worth_from m cs) ≡ sized (worth_from n cs)
-past m n cs h k =
-    let a = lt-leb (worth_from m cs) 65535 (omega (arith, worth_from_ge m cs)) in
-    let b = lt-leb (worth_from n cs) 65535 (omega (arith, worth_from_ge n cs)) in
-    grind arith
+-- once past the limit, the worth stays past it
+pub too_large : (n w : ℕ) (s : List ℕ) (i : ℕ) → i < length s → 65535 < n * 10 + (get_or s i 0 - 48) → worth_from n (drop i s) ≡ w → Err TooLarge ≡ sized w
+too_large n w s i h past e =
+    let more = worth_on n s i h in
+    let ge = worth_from_ge (n * 10 + (get_or s i 0 - 48)) (drop (i + 1) s) in
+    grind (arith, nat_tests)
 
-pub worth_on : (n : ℕ) (s : List ℕ) (i : ℕ) → i < length s → sized (worth_from n (drop i s)) ≡ sized (worth_from (n * 10 + (get_or s i 0 - 48)) (drop (i + 1) s))
-worth_on n s i h = at_drop_more (λ cs. sized (worth_from n cs)) s i 0 h
-
-pub worth_over : (n : ℕ) (s : List ℕ) (i : ℕ) → i < length s → 65535 < n → sized (worth_from n (drop i s)) ≡ sized (worth_from n (drop (i + 1) s))
-worth_over n s i h k = worth_on n s i h ∙ past (n * 10 + (get_or s i 0 - 48)) n (drop (i + 1) s) (omega arith) k
-
-pub worth_ended : (n : ℕ) (s : List ℕ) (i : ℕ) → length s ≤ i → sized (worth_from n (drop i s)) ≡ sized n
-worth_ended n s i h = at_drop_all (λ cs. sized (worth_from n cs)) s i h
+pub no_leading_zero : (cs : List ℕ) → 0 < length cs → get_or cs 0 0 ≢ 48 → numeral cs ≡ list_all is_ascii_digit cs
+no_leading_zero [] h n = absurd (omega arith)
+no_leading_zero (c ∷ []) h n = grind arith
+no_leading_zero (c ∷ d ∷ cs) h n = grind (arith, nat_tests)

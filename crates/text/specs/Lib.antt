@@ -3,3 +3,4 @@ pub mod Numerals
 pub mod Words
 pub mod Lines
 pub mod Reading
+pub mod Slips

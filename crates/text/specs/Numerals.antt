@@ -1,20 +1,15 @@
--- Decimal numerals: digits, with no leading zero but for 0 itself. 48 to 57 are the digits.
-use Rattle.std.specs.Prelude.{ℕ, ◌+◌, ◌-◌, ◌*◌, Bool, true, false, cond, not, ◌&&◌, List, [], ◌∷◌, Ok, Err, Result, ◌==◌, nat_le}
+-- Decimal numerals: digits, with no leading zero but for 0 itself. 48 is the digit 0.
+use Rattle.std.specs.Prelude.{ℕ, ◌+◌, ◌-◌, ◌*◌, Bool, false, cond, not, ◌&&◌, List, [], ◌∷◌, Ok, Err, Result, ◌==◌, nat_le}
+use Rattle.std.specs.Char.{is_ascii_digit}
+use Rattle.std.specs.List.{list_all}
 use Rattle.text.specs.declared.faults.WordFault.{WordFault}
 use Rattle.text.specs.declared.faults.WordFault.TheVariants.{NotNumber, TooLarge}
-
-abbrev pub digit : ℕ → Bool
-digit c = nat_le 48 c && nat_le c 57
-
-abbrev pub digits : List ℕ → Bool
-digits [] = true
-digits (c ∷ cs) = digit c && digits cs
 
 -- a digit alone, or digits of which the first is not 0
 abbrev pub numeral : List ℕ → Bool
 numeral [] = false
-numeral (c ∷ []) = digit c
-numeral (c ∷ d ∷ cs) = not (c == 48) && digits (c ∷ d ∷ cs)
+numeral (c ∷ []) = is_ascii_digit c
+numeral (c ∷ d ∷ cs) = not (c == 48) && list_all is_ascii_digit (c ∷ d ∷ cs)
 
 -- what digits are worth, after those that are worth n
 abbrev pub worth_from : ℕ → List ℕ → ℕ

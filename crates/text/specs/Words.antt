@@ -1,48 +1,55 @@
--- What kind of word some bytes are. 65 to 90 are the letters A to Z.
-use Rattle.std.specs.Prelude.{ℕ, Bool, false, cond, ◌&&◌, List, [], ◌∷◌, Ok, Err, Result, nat_le}
+-- What kind of word some bytes are.
+use Rattle.std.specs.Prelude.{ℕ, Bool, false, cond, List, [], ◌∷◌, Ok, Err, Result}
+use Rattle.std.specs.Char.{is_ascii_uppercase}
 use Rattle.text.specs.declared.faults.WordFault.{WordFault}
 use Rattle.text.specs.declared.faults.WordFault.TheVariants.{NotNumber, WrongLetter}
+use Rattle.text.specs.declared.words.Sort.{Sort}
+use Rattle.text.specs.declared.words.Sort.TheVariants.{Letter, Number, Unknown}
 use Rattle.text.specs.declared.words.Word.{Word}
-use Rattle.text.specs.declared.words.Word.TheVariants.{Letter, Number, Unknown}
 use Rattle.text.specs.Numerals.{numeral, worth}
 
 -- a word by its bytes and its place, apart from the memory that they stand in
-pub data Seen : Type 0 where
-  letter : List ℕ → ℕ → Seen
-  number : List ℕ → ℕ → Seen
-  unknown : List ℕ → ℕ → Seen
+pub record Seen : Type 0 where
+  pub sort : Sort
+  pub bytes : List ℕ
+  pub place : ℕ
 
 abbrev pub seen : Word → Seen
-seen (Letter part place) = letter part.now place
-seen (Number part place) = number part.now place
-seen (Unknown part place) = unknown part.now place
+seen w = record { sort = w.sort; bytes = w.part.now; place = w.place }
 
-abbrev pub capital : ℕ → Bool
-capital c = nat_le 65 c && nat_le c 90
-
+-- one capital letter
 abbrev pub single : List ℕ → Bool
 single [] = false
-single (c ∷ []) = capital c
+single (c ∷ []) = is_ascii_uppercase c
 single (c ∷ d ∷ cs) = false
 
 -- a numeral, one capital letter, or neither
+abbrev pub sort_of : List ℕ → Sort
+sort_of cs = cond (numeral cs) Number (cond (single cs) Letter Unknown)
+
 abbrev pub sorted : List ℕ → ℕ → Seen
-sorted cs p = cond (numeral cs) (number cs p) (cond (single cs) (letter cs p) (unknown cs p))
+sorted cs p = record { sort = sort_of cs; bytes = cs; place = p }
+
+abbrev pub number_in : Sort → List ℕ → Result ℕ WordFault
+number_in Letter cs = Err NotNumber
+number_in Number cs = worth cs
+number_in Unknown cs = Err NotNumber
 
 abbrev pub number_seen : Seen → Result ℕ WordFault
-number_seen (letter cs p) = Err NotNumber
-number_seen (number cs p) = worth cs
-number_seen (unknown cs p) = Err NotNumber
+number_seen w = number_in w.sort w.bytes
 
 abbrev pub only : List ℕ → Result ℕ WordFault
 only [] = Err WrongLetter
 only (c ∷ []) = Ok c
 only (c ∷ d ∷ cs) = Err WrongLetter
 
+abbrev pub letter_in : Sort → List ℕ → Result ℕ WordFault
+letter_in Letter cs = only cs
+letter_in Number cs = Err WrongLetter
+letter_in Unknown cs = Err WrongLetter
+
 abbrev pub letter_seen : Seen → Result ℕ WordFault
-letter_seen (letter cs p) = only cs
-letter_seen (number cs p) = Err WrongLetter
-letter_seen (unknown cs p) = Err WrongLetter
+letter_seen w = letter_in w.sort w.bytes
 
 -- the letter that some bytes are
 abbrev pub letter_of : List ℕ → Result ℕ WordFault

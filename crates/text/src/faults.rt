@@ -1,7 +1,7 @@
 //! What can be wrong with a word and with a line. A word's fault is carried whole inside its line's.
 
 ghost use Rattle.std.specs.Prelude.{◌≡◌};
-ghost use Rattle.text.specs.Faults.{line_at, on_err, word_at};
+ghost use Rattle.text.specs.Faults.{at_number, on_err};
 ghost use Rattle.text.specs.declared.faults.LineFault.TheVariants as lineFault;
 
 #[derive(Clone, Copy, Debug, PartialEq)]
@@ -14,11 +14,11 @@ pub enum WordFault {
     NoRows,
 }
 
-/// A fault of the word with the number `word`, from 1.
+/// A fault of the word or the line with this number, from 1.
 #[derive(Clone, Copy, Debug, PartialEq)]
-pub struct AtWord {
-    pub word: usize,
-    pub fault: WordFault,
+pub struct At<F> {
+    pub number: usize,
+    pub fault: F,
 }
 
 #[derive(Clone, Copy, Debug, PartialEq)]
@@ -30,40 +30,20 @@ pub enum LineFault {
     /// the cells of the rows do not rise
     NotRising,
     TooManySteps,
-    Word(AtWord),
+    Word(At<WordFault>),
 }
 
-/// A fault of the line with the number `line`, from 1.
-#[derive(Clone, Copy, Debug, PartialEq)]
-pub struct AtLine {
-    pub line: usize,
-    pub fault: LineFault,
-}
-
-impl From<AtWord> for LineFault {
+impl From<At<WordFault>> for LineFault {
     ghost from_gives = { λ e r. r ≡ lineFault.Word e };
 
-    fn from(e: AtWord) -> LineFault {
+    fn from(e: At<WordFault>) -> LineFault {
         LineFault::Word(e)
     }
 }
 
-/// The same result, whose fault tells the word.
-pub fn at_word<T>(r: Result<T, WordFault>, word: usize) -> Result<T, AtWord>
-    ensures { result ≡ on_err (word_at word) r }
+/// The same result, whose fault tells the number of its word or line.
+pub fn fault_at<T, F>(r: Result<T, F>, number: usize) -> Result<T, At<F>>
+    ensures { result ≡ on_err (at_number number) r }
 {
-    match r {
-        Ok(x) => Ok(x),
-        Err(fault) => Err(AtWord { word, fault }),
-    }
-}
-
-/// The same result, whose fault tells the line.
-pub fn at_line<T>(r: Result<T, LineFault>, line: usize) -> Result<T, AtLine>
-    ensures { result ≡ on_err (line_at line) r }
-{
-    match r {
-        Ok(x) => Ok(x),
-        Err(fault) => Err(AtLine { line, fault }),
-    }
+    r.map_err(|fault| At { number, fault })
 }

@@ -6,4 +6,5 @@ pub mod faults;
 mod lines;
 mod numerals;
 pub mod reader;
+pub mod slip;
 pub mod words;

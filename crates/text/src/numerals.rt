@@ -9,33 +9,25 @@ use crate::faults::WordFault;
 pub(crate) fn is_numeral(part: &[u8]) -> bool
     ensures { result ≡ numeral part.now }
 {
-    if part.len() == 0 {
-        return false;
+    match part {
+        [] => false,
+        [digit] => digit.is_ascii_digit(),
+        [first, ..] => *first != b'0' && part.iter().all(u8::is_ascii_digit),
     }
-    if part.len() > 1 && part[0] == b'0' {
-        return false;
-    }
-    for byte in part {
-        if *byte < b'0' || *byte > b'9' {
-            return false;
-        }
-    }
-    true
 }
 
 /// What a numeral is worth, if that is at most 65,535.
 pub(crate) fn value_of(part: &[u8]) -> Result<u16, WordFault>
     ensures { result ≡ worth part.now }
 {
-    let mut value: u32 = 0;
+    let mut value: u16 = 0;
     for byte in part {
-        // past the limit it does not matter by how much
-        if value <= 65535 {
-            value = value * 10 + u32::from(byte.saturating_sub(b'0'));
-        }
+        // saturating, since whoever makes a `Word` of their own may put any bytes into it
+        let digit = u16::from(byte.saturating_sub(b'0'));
+        value = value
+            .checked_mul(10)
+            .and_then(|tens| tens.checked_add(digit))
+            .ok_or(WordFault::TooLarge)?;
     }
-    if value > 65535 {
-        return Err(WordFault::TooLarge);
-    }
-    Ok(value as u16)
+    Ok(value)
 }

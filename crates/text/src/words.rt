@@ -6,24 +6,31 @@ ghost use Rattle.text.specs.Words.{seen, sorted, number_seen, letter_seen};
 use crate::faults::WordFault;
 use crate::numerals::{is_numeral, value_of};
 
+/// What the bytes of a word are: one capital letter, a numeral, or neither.
+#[derive(Clone, Copy, Debug, PartialEq)]
+pub enum Sort {
+    Letter,
+    Number,
+    Unknown,
+}
+
 #[derive(Clone, Copy)]
-pub enum Word<'a> {
-    Letter { part: &'a [u8], place: usize },
-    Number { part: &'a [u8], place: usize },
-    Unknown { part: &'a [u8], place: usize },
+pub struct Word<'a> {
+    pub sort: Sort,
+    pub part: &'a [u8],
+    pub place: usize,
 }
 
 /// The word that the part of the sheet at `place` is.
 pub(crate) fn sort_word<'a>(part: &'a [u8], place: usize) -> Word<'a>
     ensures { seen result ≡ sorted part.now place }
 {
-    if is_numeral(part) {
-        return Word::Number { part, place };
-    }
-    match part {
-        [b'A'..=b'Z'] => Word::Letter { part, place },
-        _ => Word::Unknown { part, place },
-    }
+    let sort = match part {
+        [b'A'..=b'Z'] => Sort::Letter,
+        _ if is_numeral(part) => Sort::Number,
+        _ => Sort::Unknown,
+    };
+    Word { sort, part, place }
 }
 
 impl Word<'_> {
@@ -31,9 +38,9 @@ impl Word<'_> {
     pub fn number(self) -> Result<u16, WordFault>
         ensures { result ≡ number_seen (seen self.entry) }
     {
-        match self {
-            Word::Number { part, .. } => value_of(part),
-            Word::Letter { .. } | Word::Unknown { .. } => Err(WordFault::NotNumber),
+        match self.sort {
+            Sort::Number => value_of(self.part),
+            Sort::Letter | Sort::Unknown => Err(WordFault::NotNumber),
         }
     }
 
@@ -41,8 +48,8 @@ impl Word<'_> {
     pub fn letter(self) -> Result<char, WordFault>
         ensures { result ≡ letter_seen (seen self.entry) }
     {
-        match self {
-            Word::Letter { part: [byte], .. } => Ok(*byte as char),
+        match (self.sort, self.part) {
+            (Sort::Letter, [byte]) => Ok(char::from(*byte)),
             _ => Err(WordFault::WrongLetter),
         }
     }

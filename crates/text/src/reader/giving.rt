@@ -1,12 +1,14 @@
 //! What the reader gives: whether its line is as it should be, and the words of the line, one after another.
 
-ghost use Rattle.std.specs.Prelude.{◌≡◌, ◌≤◌, length as size};
-ghost use Rattle.text.specs.Lines.{line_there, up_to, word_of};
-ghost use Rattle.text.specs.Reading.{here, past_word, number_at, number_within, number_below, letter_at, letter_is};
+ghost use Rattle.std.specs.Prelude.{◌≡◌, ◌≤◌, Bool, length as size};
+ghost use Rattle.std.specs.Fn.{FnOnceReturnsAt, FnOnceTakesAt};
+ghost use Rattle.text.specs.Faults.{at_number};
+ghost use Rattle.text.specs.Lines.{line_there, word_length, word_of};
+ghost use Rattle.text.specs.Reading.{WentPastWord, here, number_at, number_within, number_below, letter_at, letter_is, passing};
 ghost use Rattle.text.specs.Words.{seen, sorted};
 
 use super::Reader;
-use crate::faults::{AtWord, LineFault, WordFault, at_word};
+use crate::faults::{At, LineFault, WordFault, fault_at};
 use crate::lines::{LF, first_line, first_word, has_words};
 use crate::words::{Word, sort_word};
 
@@ -15,9 +17,7 @@ impl<'a> Reader<'a> {
     pub fn line_there(&self, count: usize) -> Result<(), LineFault>
         ensures { result ≡ line_there count (here self.now).bytes }
     {
-        let Some(line) = first_line(self.rest()) else {
-            return Err(LineFault::Lacking);
-        };
+        let line = first_line(self.rest()).ok_or(LineFault::Lacking)?;
         if !has_words(line, count) {
             return Err(LineFault::Shape);
         }
@@ -27,8 +27,7 @@ impl<'a> Reader<'a> {
     /// The word that begins here, and on to the next.
     pub fn next_word(&mut self) -> Word<'a>
         ensures word { seen result ≡ sorted (word_of (here self.old).bytes) self.old.place }
-        ensures sheet { self.new.sheet ≡ self.old.sheet }
-        ensures here { here self.new ≡ past_word (here self.old) }
+        ensures moved { WentPastWord self.old self.new }
     {
         let place = self.place;
         let part = first_word(self.rest());
@@ -38,85 +37,88 @@ impl<'a> Reader<'a> {
 
     // Past the next word, which has `length` bytes, and the space or LF after it.
     fn pass(&mut self, length: usize)
-        requires word { length ≡ up_to 32 10 (here self.old).bytes }
+        requires word { length ≡ word_length (here self.old).bytes }
         requires within { length ≤ size (here self.old).bytes }
-        ensures sheet { self.new.sheet ≡ self.old.sheet }
-        ensures here { here self.new ≡ past_word (here self.old) }
+        ensures moved { WentPastWord self.old self.new }
     {
-        let rest = self.rest();
-        if length == rest.len() {
-            self.place += length;
-        } else {
-            self.place += length + 1;
-            if rest[length] == LF {
+        let stop = self.rest().get(length);
+        self.place += length;
+        if let Some(byte) = stop {
+            self.place += 1;
+            if *byte == LF {
                 self.line += 1;
             }
         }
     }
 
     /// The next word, which is word `word` of its line, as a number.
-    pub fn number(&mut self, word: usize) -> Result<u16, AtWord>
+    pub fn number(&mut self, word: usize) -> Result<u16, At<WordFault>>
         ensures answer { result ≡ number_at word (here self.old) }
-        ensures sheet { self.new.sheet ≡ self.old.sheet }
-        ensures here { here self.new ≡ past_word (here self.old) }
+        ensures moved { WentPastWord self.old self.new }
     {
-        at_word(self.next_word().number(), word)
+        fault_at(self.next_word().number(), word)
     }
 
     /// A number from `least` to `most`.
-    pub fn number_within(&mut self, word: usize, least: u16, most: u16) -> Result<u16, AtWord>
+    pub fn number_within(
+        &mut self,
+        word: usize,
+        least: u16,
+        most: u16,
+    ) -> Result<u16, At<WordFault>>
         ensures answer { result ≡ number_within word least most (here self.old) }
-        ensures sheet { self.new.sheet ≡ self.old.sheet }
-        ensures here { here self.new ≡ past_word (here self.old) }
+        ensures moved { WentPastWord self.old self.new }
     {
         let number = self.number(word)?;
-        if number < least || number > most {
-            return Err(AtWord {
-                word,
-                fault: WordFault::OutOfRange,
-            });
-        }
-        Ok(number)
+        passing(
+            number,
+            |n| (least..=most).contains(n),
+            word,
+            WordFault::OutOfRange,
+        )
     }
 
     /// A number below `end`.
-    pub fn number_below(&mut self, word: usize, end: u16) -> Result<u16, AtWord>
+    pub fn number_below(&mut self, word: usize, end: u16) -> Result<u16, At<WordFault>>
         ensures answer { result ≡ number_below word end (here self.old) }
-        ensures sheet { self.new.sheet ≡ self.old.sheet }
-        ensures here { here self.new ≡ past_word (here self.old) }
+        ensures moved { WentPastWord self.old self.new }
     {
         let number = self.number(word)?;
-        if number >= end {
-            return Err(AtWord {
-                word,
-                fault: WordFault::OutOfRange,
-            });
-        }
-        Ok(number)
+        passing(number, |n| *n < end, word, WordFault::OutOfRange)
     }
 
     /// The next word as a letter.
-    pub fn letter(&mut self, word: usize) -> Result<char, AtWord>
+    pub fn letter(&mut self, word: usize) -> Result<char, At<WordFault>>
         ensures answer { result ≡ letter_at word (here self.old) }
-        ensures sheet { self.new.sheet ≡ self.old.sheet }
-        ensures here { here self.new ≡ past_word (here self.old) }
+        ensures moved { WentPastWord self.old self.new }
     {
-        at_word(self.next_word().letter(), word)
+        fault_at(self.next_word().letter(), word)
     }
 
     /// The next word has to be this letter.
-    pub fn letter_is(&mut self, word: usize, letter: char) -> Result<char, AtWord>
+    pub fn letter_is(&mut self, word: usize, letter: char) -> Result<char, At<WordFault>>
         ensures answer { result ≡ letter_is word letter (here self.old) }
-        ensures sheet { self.new.sheet ≡ self.old.sheet }
-        ensures here { here self.new ≡ past_word (here self.old) }
+        ensures moved { WentPastWord self.old self.new }
     {
         let found = self.letter(word)?;
-        if found != letter {
-            return Err(AtWord {
-                word,
-                fault: WordFault::WrongLetter,
-            });
-        }
-        Ok(found)
+        passing(found, |l| *l == letter, word, WordFault::WrongLetter)
     }
+}
+
+// What was read as this word of the line, if it passes the test; else the word has this fault.
+fn passing<T, P: FnOnce(&T) -> bool>(
+    found: T,
+    passes: P,
+    word: usize,
+    fault: WordFault,
+) -> Result<T, At<WordFault>>
+where
+    T: Drop,
+    requires { FnOnceTakesAt P.FnOnce passes found }
+    ensures { (b : Bool) × FnOnceReturnsAt P.FnOnce passes found b × (result ≡ passing b (at_number word fault) found) }
+{
+    Some(found).filter(passes).ok_or(At {
+        number: word,
+        fault,
+    })
 }

@@ -26,7 +26,7 @@ impl<'a> Reader<'a> {
     pub fn at_end(&self) -> bool
         ensures { result ≡ nothing_left (here self.now) }
     {
-        self.rest().len() == 0
+        self.rest().is_empty()
     }
 
     // The bytes from here on.
@@ -34,7 +34,6 @@ impl<'a> Reader<'a> {
         ensures bytes { result.now ≡ (here self.now).bytes }
         ensures long { self.now.place + length result.now ≡ length self.now.sheet.now }
     {
-        let sheet = self.sheet;
-        &sheet[self.place..]
+        &self.sheet[self.place..]
     }
 }

@@ -1,27 +1,16 @@
-use Rattle.std.proofs.Common.{Bool, ◌&&◌, eqb, sym, ap, ◌∙◌, arith}
-use Rattle.text.proofs.Parting.{in_word, past_word, no_word, all_seen, at_state}
+use Rattle.std.proofs.Common.{eqb, not, length, rules, tests, arith}
+use Rattle.std.proofs.lemmas.Iterator.Search.{all_from_yields_List}
+use Rattle.std.proofs.lemmas.Iterator.Consumers.{count_from_yields_List}
+use Rattle.std.proofs.lemmas.Iterator.Splits.{YieldsList-from_slice_split}
 use Rattle.text.proofs.lines.has_words.Goals as goal
-use Rattle.text.proofs.lines.has_words.Goals.{then-byte-ne-SPACE, else-byte-ne-SPACE+then-begun}
 
-pub returns-else-begun : goal.returns-else-begun
-returns-else-begun c = no_word c.args.line.now c.loop-byte.byte-index (omega arith) c.loop-byte.invariant.1 c.if-byte-ne-SPACE.false c.if-begun.false c.args.count
+pub returns-then-all : goal.returns-then-all
+returns-then-all c =
+    let a = all_from_yields_List (λ part. not (eqb (length part) 0)) _ _ c.all.result c.all.ensures.ran (YieldsList-from_slice_split _ (λ b. eqb b 32) c.args.line.now c.split.ensures.rest c.split.ensures.done c.split.ensures.closure (λ x b q k. search (rules, tests))) (λ x b q k. search (rules, tests)) in
+    let n = count_from_yields_List _ c.count.result c.count.ensures.ran (YieldsList-from_slice_split _ (λ b. eqb b 32) c.args.line.now c.split-then-all.ensures.rest c.split-then-all.ensures.done c.split-then-all.ensures.closure (λ x b q k. search (rules, tests))) in
+    grind arith
 
-pub loop-byte-preserved : goal.loop-byte-preserved
-loop-byte-preserved c =
-    let s = c.args.line.now in
-    let i = c.loop-byte.byte-index in
-    elim c.if-byte-ne-SPACE.branch [
-      | then-byte-ne-SPACE w ↦ (omega (arith, w.words-is), at_state w.words-is w.begun-is (in_word s i (omega arith) c.loop-byte.invariant.1 w.if-byte-ne-SPACE.true))
-      | else-byte-ne-SPACE+then-begun w ↦ (omega (arith, w.words-is), at_state w.words-is w.begun-is (past_word s i (omega arith) c.loop-byte.invariant.1 w.if-byte-ne-SPACE.false w.if-begun.true))
-    ]
-
-pub returns-then-begun-2 : goal.returns-then-begun-2
-returns-then-begun-2 c =
-    ap (λ (b : Bool). b && eqb c.loop-byte.words c.args.count) (sym c.if-begun-2.true)
-    ∙ all_seen c.args.line.now c.loop-byte.byte-index (omega arith) c.loop-byte.invariant.1 c.args.count
-
-pub returns-else-begun-2 : goal.returns-else-begun-2
-returns-else-begun-2 c =
-    c.if-begun-2.false
-    ∙ ap (λ (b : Bool). b && eqb c.loop-byte.words c.args.count) (sym c.if-begun-2.false)
-    ∙ all_seen c.args.line.now c.loop-byte.byte-index (omega arith) c.loop-byte.invariant.1 c.args.count
+pub returns-else-all : goal.returns-else-all
+returns-else-all c =
+    let a = all_from_yields_List (λ part. not (eqb (length part) 0)) _ _ c.all.result c.all.ensures.ran (YieldsList-from_slice_split _ (λ b. eqb b 32) c.args.line.now c.split.ensures.rest c.split.ensures.done c.split.ensures.closure (λ x b q k. search (rules, tests))) (λ x b q k. search (rules, tests)) in
+    grind arith

@@ -1,26 +1,19 @@
-use Rattle.std.proofs.Common.{◌+◌, ◌*◌, drop, sym, ap, ◌∙◌, arith}
+use Rattle.std.proofs.Common.{◌+◌, ◌-◌, ◌*◌, ◌<◌, ◌≡◌, drop, get_or, ap, arith}
+use Rattle.std.proofs.lemmas.Grind.{common_steps}
+use Rattle.std.proofs.lemmas.List.{drop_all}
 use Rattle.std.proofs.lemmas.Bool.Decides.{nat_tests}
-use Rattle.text.specs.Numerals.{worth_from, sized}
-use Rattle.text.proofs.Digits.{worth_on, worth_over, worth_ended}
+use Rattle.text.specs.Numerals.{worth_from}
+use Rattle.text.proofs.Digits.{too_large}
 use Rattle.text.proofs.numerals.value_of.Goals as goal
-use Rattle.text.proofs.numerals.value_of.Goals.{then-value-le65535, else-value-le65535}
 
-pub loop-byte-preserved : goal.loop-byte-preserved
-loop-byte-preserved c =
-    let n = c.loop-byte.value in
-    let s = c.args.part.now in
-    let i = c.loop-byte.byte-index in
-    elim c.if-value-le65535.branch [
-      | then-value-le65535 w ↦ (omega (arith, w.value-is), ap (λ v. sized (worth_from v (drop (i + 1) s))) (w.value-is ∙ ap (λ d. n * 10 + d) (w.from.ensures ∙ w.saturating_sub.ensures)) ∙ sym (worth_on n s i (omega arith)) ∙ c.loop-byte.invariant.1)
-      | else-value-le65535 w ↦ (omega (arith, w.value-is), ap (λ v. sized (worth_from v (drop (i + 1) s))) w.value-is ∙ sym (worth_over n s i (omega arith) w.if-value-le65535.false) ∙ c.loop-byte.invariant.1)
-    ]
-
-pub returns-then-value-gt65535 : goal.returns-then-value-gt65535
-returns-then-value-gt65535 c =
-    let e = worth_ended c.loop-byte.value c.args.part.now c.loop-byte.byte-index (omega arith) in
-    let k = c.loop-byte.invariant.1 in grind (arith, nat_tests)
+pub returns-in_err-value : goal.returns-in_err-value
+returns-in_err-value c =
+    let past : 65535 < c.loop-byte.value * 10 + (get_or c.args.part.now c.loop-byte.byte-index 0 - 48) = grind (arith, common_steps) in
+    let e = too_large c.loop-byte.value _ c.args.part.now c.loop-byte.byte-index (omega arith) past c.loop-byte.invariant.worth in
+    grind (arith, common_steps)
 
 pub returns : goal.returns
 returns c =
-    let e = worth_ended c.loop-byte.value c.args.part.now c.loop-byte.byte-index (omega arith) in
-    let k = c.loop-byte.invariant.1 in grind (arith, nat_tests)
+    let e : worth_from c.loop-byte.value (drop c.loop-byte.byte-index c.args.part.now) ≡ c.loop-byte.value = ap (worth_from c.loop-byte.value) (drop_all c.loop-byte.byte-index c.args.part.now (omega arith)) in
+    let i = c.loop-byte.invariant.worth in
+    grind (arith, nat_tests)
