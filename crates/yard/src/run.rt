@@ -39,11 +39,12 @@ pub enum Outcome {
     Failed(u16, Cause),
 }
 
-/// What is asked of a run: the next step of a lane, the value of a cell, or how far the run is.
-#[derive(Clone, Copy, Debug, PartialEq)]
+/// What is asked of a run: the next step of a lane, the value of a cell, or how far the run is. The default alters nothing.
+#[derive(Clone, Copy, Debug, Default, PartialEq)]
 pub enum Call {
     Step(usize),
     Look(usize),
+    #[default]
     Tally,
 }
 
