@@ -1,5 +1,4 @@
 pub mod Valuing
 pub mod Repeating
 pub mod Rising
-pub mod Moving
 pub mod Whole

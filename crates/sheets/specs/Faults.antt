@@ -5,7 +5,7 @@ use Rattle.text.specs.declared.faults.WordFault.TheVariants.{NotNumber, TooLarge
 use Rattle.text.specs.declared.faults.LineFault.{LineFault}
 use Rattle.text.specs.declared.faults.LineFault.TheVariants.{Lacking, Shape, NotRising, TooManySteps, Word}
 use Rattle.sheets.specs.declared.faults.SheetFault.{SheetFault}
-use Rattle.sheets.specs.declared.faults.Slip.{Slip}
+use Rattle.text.specs.declared.slip.Slip.{Slip}
 use Rattle.sheets.specs.declared.faults.SheetFault.TheVariants.{ListTooShort, TooLong, Line}
 
 abbrev pub word_number : WordFault → ℕ
@@ -27,7 +27,7 @@ word_of Shape = 0
 word_of NotRising = 0
 word_of TooManySteps = 0
 word_of Lacking = 0
-word_of (Word at) = at.word
+word_of (Word at) = at.number
 
 abbrev pub slip : ℕ → ℕ → ℕ → Slip
 slip n l w = record { number = n; line = l; word = w }
@@ -35,4 +35,4 @@ slip n l w = record { number = n; line = l; word = w }
 abbrev pub told : SheetFault → Slip
 told TooLong = slip 10 0 0
 told ListTooShort = slip 11 0 0
-told (Line at) = slip (line_number at.fault) at.line (word_of at.fault)
+told (Line at) = slip (line_number at.fault) at.number (word_of at.fault)

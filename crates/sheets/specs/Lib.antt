@@ -2,3 +2,4 @@ pub mod Faults
 pub mod Lines
 pub mod Sections
 pub mod Sheet
+pub mod Lent

@@ -1,11 +1,14 @@
 -- The lines of a sheet, one by one. Each is read from where the reader stands to past its last word.
-use Rattle.std.specs.Prelude.{ℕ, zero, suc, ◌+◌, ◌-◌, cond, Some, None, Ok, Err, Option, Result, ◌==◌, nat_le}
+use Rattle.std.specs.Prelude.{◌≡◌, ℕ, zero, suc, ◌+◌, ◌-◌, cond, Some, None, Ok, Err, Option, Result, ◌==◌, nat_le}
+use Rattle.std.specs.Borrow.{MutBor}
+use Rattle.std.specs.Fn.{Shared}
 use Rattle.text.specs.declared.faults.WordFault.TheVariants.{OutOfRange, WrongLetter, NoRows}
 use Rattle.text.specs.declared.faults.LineFault.{LineFault}
 use Rattle.text.specs.declared.faults.LineFault.TheVariants.{NotRising, TooManySteps, Word}
 use Rattle.text.specs.Faults.{and_then, on_err, in_word}
 use Rattle.text.specs.Lines.{line_there}
-use Rattle.text.specs.Reading.{Here, past, past_word, passing, number_at, number_within, number_below, letter_at, letter_is}
+use Rattle.text.specs.declared.reader.Reader.{Reader}
+use Rattle.text.specs.Reading.{Here, here, past, past_word, passing, number_at, number_within, number_below, letter_at, letter_is}
 use Rattle.yard.specs.declared.batch.Move.{Move}
 use Rattle.yard.specs.declared.batch.Step.{Step}
 use Rattle.yard.specs.Rules.{Rules}
@@ -25,6 +28,10 @@ read a h = record { got = a; then = h }
 abbrev pub answered : {A E : Type 0} → Result A E → Here → Result (Read A) E
 answered (Ok a) h = Ok (read a h)
 answered (Err e) h = Err e
+
+-- each call of f reads a line as `line` says
+abbrev pub ReadsAs : {F T : Type 0} → Shared F (MutBor Reader × Unit {0}) (Result T LineFault × (MutBor Reader × Unit {0})) → F → (Here → Result (Read T) LineFault) → Type 0
+ReadsAs {F} {T} g f line = (p q : MutBor Reader) (r : Result T LineFault) → g.post f (p, tt) (r, (q, tt)) → answered r (here q.now) ≡ line (here p.now)
 
 -- the first line: the kind's letter, the cells and the share
 abbrev pub kind_line : ℕ → Here → Result (Read Size) LineFault

@@ -1,9 +1,11 @@
 -- A whole sheet: what its bytes say, or its first fault.
-use Rattle.std.specs.Prelude.{ℕ, Bool, cond, ◌&&◌, List, [], ◌++◌, length, take, drop, Ok, Err, Result, nat_le}
-use Rattle.text.specs.declared.faults.AtLine.{AtLine}
+use Rattle.std.specs.Prelude.{ℕ, Bool, cond, ◌&&◌, List, [], length, Ok, Err, Result, nat_le}
+use Rattle.text.specs.declared.faults.At.{At}
+use Rattle.text.specs.declared.faults.LineFault.{LineFault}
 use Rattle.text.specs.declared.faults.LineFault.TheVariants.{Lacking}
-use Rattle.text.specs.Faults.{and_then, on_err, line_at}
+use Rattle.text.specs.Faults.{and_then, on_err, at_number}
 use Rattle.text.specs.Reading.{Here, start, nothing_left}
+use Rattle.yard.specs.Fronts.{laid}
 use Rattle.yard.specs.declared.batch.Move.{Move}
 use Rattle.yard.specs.declared.batch.Step.{Step}
 use Rattle.yard.specs.Rules.{Rules}
@@ -11,7 +13,9 @@ use Rattle.yard.specs.Rows.{Rows}
 use Rattle.sheets.specs.declared.faults.SheetFault.{SheetFault}
 use Rattle.sheets.specs.declared.faults.SheetFault.TheVariants.{ListTooShort, TooLong, Line}
 use Rattle.sheets.specs.declared.counts.Counts.{Counts}
+use Rattle.sheets.specs.declared.lines.Head.{Head}
 use Rattle.sheets.specs.declared.lines.Size.{Size}
+use Rattle.sheets.specs.declared.sheet.Found.{Found}
 use Rattle.sheets.specs.Lines.{Read, read, kind_line, count_line, occupancy_line, choice_line}
 use Rattle.sheets.specs.Sections.{in_line, repeat, listing, rows_read, Moves, moves_of, move_into}
 
@@ -25,33 +29,29 @@ pub record Sheet (V : Type 0) : Type 0 where
   pub choices : List ℕ
 
 -- the two lines before the rows: the size of the yard, and how many rows come
-pub record Head : Type 0 where
-  pub size : Size
-  pub rows : ℕ
-
 abbrev pub head_by : Size → ℕ → Head
 head_by size rows = record { size = size; rows = rows }
 
-abbrev pub head : ℕ → Here → Result (Read Head) AtLine
+abbrev pub head : ℕ → Here → Result (Read Head) (At LineFault)
 head letter h =
     and_then (in_line (kind_line letter) h) (λ size.
     and_then (in_line occupancy_line size.then) (λ n.
     Ok (read (head_by size.got n.got) n.then)))
 
 -- the moves; M is 77
-abbrev pub batch : {V : Type 0} → Rules V → ℕ → Here → Result (Read Moves) AtLine
+abbrev pub batch : {V : Type 0} → Rules V → ℕ → Here → Result (Read Moves) (At LineFault)
 batch R cells h = and_then (in_line (count_line 77 256) h) (λ n. repeat n.got (move_into R cells) (moves_of [] []) n.then)
 
 -- the choices among so many moves; C is 67
-abbrev pub choices : ℕ → Here → Result (Read (List ℕ)) AtLine
+abbrev pub choices : ℕ → Here → Result (Read (List ℕ)) (At LineFault)
 choices moves h = and_then (in_line (count_line 67 64) h) (λ n. repeat n.got (listing (choice_line moves)) [] n.then)
 
 -- bytes that follow the last line are a line too many
-abbrev pub at_end : {A : Type 0} → A → Here → Result A AtLine
-at_end a h = cond (nothing_left h) (Ok a) (Err (line_at h.line Lacking))
+abbrev pub at_end : {A : Type 0} → A → Here → Result A (At LineFault)
+at_end a h = cond (nothing_left h) (Ok a) (Err (at_number h.line Lacking))
 
 -- what follows the head: the rows, the moves, the choices, and nothing else
-abbrev pub body : {V : Type 0} → Rules V → Rows V → Head → Here → Result (Sheet V) AtLine
+abbrev pub body : {V : Type 0} → Rules V → Rows V → Head → Here → Result (Sheet V) (At LineFault)
 body R rows d h =
     and_then (rows_read rows d.size.cells d.rows h) (λ v.
     and_then (batch R d.size.cells v.then) (λ m.
@@ -66,28 +66,24 @@ body R rows d h =
       choices = c.got;
     }) c.then)))
 
-abbrev pub sections : {V : Type 0} → Rules V → Rows V → Here → Result (Sheet V) AtLine
+abbrev pub sections : {V : Type 0} → Rules V → Rows V → Here → Result (Sheet V) (At LineFault)
 sections R rows h = and_then (head rows.letter h) (λ d. body R rows d.got d.then)
 
 -- a sheet has at most 32,768 bytes
 abbrev pub sheet_of : {V : Type 0} → Rules V → Rows V → List ℕ → Result (Sheet V) SheetFault
 sheet_of R rows bs = cond (nat_le (length bs) 32768) (on_err Line (sections R rows (start bs))) (Err TooLong)
 
--- a sheet by its counts and its lists
-abbrev pub sheet_by : {V : Type 0} → Counts → List V → List Move → List Step → List ℕ → Sheet V
-sheet_by n vs ms ss cs = record {
-  cells = n.cells;
-  share = n.share;
-  rows = n.rows;
+-- a sheet by its head, its values and what follows its rows
+abbrev pub sheet_by : {V : Type 0} → Head → List V → Found → Sheet V
+sheet_by d vs f = record {
+  cells = d.size.cells;
+  share = d.size.share;
+  rows = d.rows;
   values = vs;
-  moves = take n.moves ms;
-  steps = take n.steps ss;
-  choices = take n.choices cs;
+  moves = f.batch.moves.items;
+  steps = f.batch.steps.items;
+  choices = f.choices.items;
 }
-
-abbrev pub read_by : {V E : Type 0} → Result Counts E → List V → List Move → List Step → List ℕ → Result (Sheet V) E
-read_by (Ok n) vs ms ss cs = Ok (sheet_by n vs ms ss cs)
-read_by (Err e) vs ms ss cs = Err e
 
 -- the lists of a caller that a sheet is read into
 pub record Lists (V : Type 0) : Type 0 where
@@ -102,10 +98,6 @@ lists vs ms ss cs = record { values = vs; moves = ms; steps = ss; choices = cs }
 -- they have their full lengths
 abbrev pub roomy : {V : Type 0} → Lists V → Bool
 roomy l = nat_le 1024 (length l.values) && nat_le 256 (length l.moves) && nat_le 1024 (length l.steps) && nat_le 64 (length l.choices)
-
--- what was read lies over the front of a list
-abbrev pub laid : {A : Type 0} → List A → List A → List A
-laid xs ys = xs ++ drop (length xs) ys
 
 abbrev pub filled : {V : Type 0} → Sheet V → Lists V → Lists V
 filled s l = lists (laid s.values l.values) (laid s.moves l.moves) (laid s.steps l.steps) (laid s.choices l.choices)

@@ -3,28 +3,20 @@
 ghost use Rattle.std.specs.Prelude.{◌≡◌};
 ghost use Rattle.sheets.specs.declared.faults.SheetFault.TheVariants as sheetFault;
 
-use text::faults::AtLine;
+use text::faults::{At, LineFault};
 
 #[derive(Clone, Copy, Debug, PartialEq)]
 pub enum SheetFault {
     /// a list of the caller's is shorter than its full length
     ListTooShort,
     TooLong,
-    Line(AtLine),
+    Line(At<LineFault>),
 }
 
-/// Where a sheet is wrong: the number of the refusal, the line and the word.
-#[derive(Clone, Copy, Debug, PartialEq)]
-pub struct Slip {
-    pub number: u8,
-    pub line: usize,
-    pub word: usize,
-}
-
-impl From<AtLine> for SheetFault {
+impl From<At<LineFault>> for SheetFault {
     ghost from_gives = { λ e r. r ≡ sheetFault.Line e };
 
-    fn from(e: AtLine) -> SheetFault {
+    fn from(e: At<LineFault>) -> SheetFault {
         SheetFault::Line(e)
     }
 }

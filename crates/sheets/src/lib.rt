@@ -5,6 +5,7 @@
 pub mod counts;
 pub mod faults;
 mod lines;
+pub mod lists;
 pub mod read;
 mod sections;
 mod sheet;

@@ -9,6 +9,13 @@ pub(crate) struct Size {
     pub share: u16,
 }
 
+/// What the two lines before the rows tell: the size of the yard, and how many rows come.
+#[derive(Clone, Copy)]
+pub(crate) struct Head {
+    pub size: Size,
+    pub rows: u16,
+}
+
 /// What an occupancy row tells.
 #[derive(Clone, Copy)]
 pub(crate) struct Row<V> {

@@ -3,52 +3,26 @@
 ghost use Rattle.std.specs.Prelude.{◌≡◌};
 ghost use Rattle.sheets.specs.Faults.{told, word_number};
 
-use crate::faults::{SheetFault, Slip};
-use text::faults::{AtLine, LineFault, WordFault};
+use crate::faults::SheetFault;
+use text::faults::{LineFault, WordFault};
+use text::slip::Slip;
 
-impl SheetFault {
-    pub fn slip(self) -> Slip
-        ensures { result ≡ told self }
-    {
-        match self {
-            SheetFault::TooLong => Slip {
-                number: 10,
-                line: 0,
-                word: 0,
+impl From<SheetFault> for Slip {
+    ghost from_gives = { λ fault slip. slip ≡ told fault };
+
+    fn from(fault: SheetFault) -> Slip {
+        let (number, line, word) = match fault {
+            SheetFault::TooLong => (10, 0, 0),
+            SheetFault::ListTooShort => (11, 0, 0),
+            SheetFault::Line(line) => match line.fault {
+                LineFault::Shape => (3, line.number, 0),
+                LineFault::NotRising => (7, line.number, 0),
+                LineFault::TooManySteps => (8, line.number, 0),
+                LineFault::Lacking => (9, line.number, 0),
+                LineFault::Word(word) => (word_number(word.fault), line.number, word.number),
             },
-            SheetFault::ListTooShort => Slip {
-                number: 11,
-                line: 0,
-                word: 0,
-            },
-            SheetFault::Line(AtLine { line, fault }) => match fault {
-                LineFault::Shape => Slip {
-                    number: 3,
-                    line,
-                    word: 0,
-                },
-                LineFault::NotRising => Slip {
-                    number: 7,
-                    line,
-                    word: 0,
-                },
-                LineFault::TooManySteps => Slip {
-                    number: 8,
-                    line,
-                    word: 0,
-                },
-                LineFault::Lacking => Slip {
-                    number: 9,
-                    line,
-                    word: 0,
-                },
-                LineFault::Word(at) => Slip {
-                    number: word_number(at.fault),
-                    line,
-                    word: at.word,
-                },
-            },
-        }
+        };
+        Slip { number, line, word }
     }
 }
 

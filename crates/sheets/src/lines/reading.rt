@@ -1,14 +1,23 @@
 //! Reading one line of a sheet.
 
 ghost use Rattle.std.specs.Prelude.{◌≡◌, ◌+◌, ◌-◌, ◌<◌, ◌≤◌, IfOk};
-ghost use Rattle.text.specs.Reading.{here};
+ghost use Rattle.text.specs.Faults.{at_number};
+ghost use Rattle.text.specs.Reading.{here, passing};
 ghost use Rattle.sheets.specs.Lines.{answered, kind_line, count_line, occupancy_line, row_value, row_line, move_line, step_line, choice_line};
 
 use super::{Row, Size};
-use text::faults::{AtWord, LineFault, WordFault};
+use text::faults::{At, LineFault, WordFault, fault_at};
 use text::reader::Reader;
 use yard::batch::{Move, Order, Step};
+use yard::full::{CELLS, STEPS};
 use yard::kind::Kind;
+
+// The test that this word of the line has to pass; else it has this fault.
+fn passing(passes: bool, word: usize, fault: WordFault) -> Result<(), At<WordFault>>
+    ensures { result ≡ passing passes (at_number word fault) tt }
+{
+    fault_at(passes.then_some(()).ok_or(fault), word)
+}
 
 /// The first line: the kind's letter, the cells and the share.
 pub(crate) fn kind_line(reader: &mut Reader, letter: char) -> Result<Size, LineFault>
@@ -17,7 +26,7 @@ pub(crate) fn kind_line(reader: &mut Reader, letter: char) -> Result<Size, LineF
 {
     reader.line_there(3)?;
     reader.letter_is(1, letter)?;
-    let cells = reader.number_within(2, 1, 1024)?;
+    let cells = reader.number_within(2, 1, CELLS as u16)?;
     let share = reader.number_within(3, 1, 1000)?;
     Ok(Size { cells, share })
 }
@@ -29,38 +38,28 @@ pub(crate) fn count_line(reader: &mut Reader, letter: char, most: u16) -> Result
 {
     reader.line_there(2)?;
     reader.letter_is(1, letter)?;
-    let count = reader.number_within(2, 0, most)?;
-    Ok(count)
+    Ok(reader.number_within(2, 0, most)?)
 }
 
 /// The first line of the occupancy, which has at least one row.
 pub(crate) fn occupancy_line(reader: &mut Reader) -> Result<u16, LineFault>
     ensures { answered result (here reader.new) ≡ occupancy_line (here reader.old) }
 {
-    let count = count_line(reader, 'O', 1024)?;
-    if count == 0 {
-        return Err(LineFault::Word(AtWord {
-            word: 2,
-            fault: WordFault::NoRows,
-        }));
-    }
+    let count = count_line(reader, 'O', CELLS as u16)?;
+    passing(count > 0, 2, WordFault::NoRows)?;
     Ok(count)
 }
 
 /// The words of a row after its cell, as a value.
+#[tactic(auto, using(crate::proofs::Valuing::next_word))]
 fn row_value<K: Kind>(reader: &mut Reader) -> Result<K::Value, LineFault>
     ensures { answered result (here reader.new) ≡ row_value K.Kind.rows (K.Kind.rows.words - 1) 1 K.Kind.rows.unnamed (here reader.old) }
 {
     let mut value = K::unnamed();
     for place in 1..K::ROW_WORDS {
         let word = reader.number(place + 1)?;
-        let Some(longer) = K::with_word(value, place, word) else {
-            return Err(LineFault::Word(AtWord {
-                word: place + 1,
-                fault: WordFault::OutOfRange,
-            }));
-        };
-        value = longer;
+        let longer = K::with_word(value, place, word).ok_or(WordFault::OutOfRange);
+        value = fault_at(longer, place + 1)?;
     }
     Ok(value)
 }
@@ -91,7 +90,7 @@ pub(crate) fn move_line(reader: &mut Reader, first: u16) -> Result<Move, LineFau
     reader.line_there(2)?;
     let label = reader.number_within(1, 1, 65535)?;
     let count = reader.number_within(2, 1, 8)?;
-    if u32::from(first) + u32::from(count) > 1024 {
+    if usize::from(first) + usize::from(count) > STEPS {
         return Err(LineFault::TooManySteps);
     }
     Ok(Move {
@@ -106,21 +105,11 @@ pub(crate) fn step_line<K: Kind>(reader: &mut Reader, cells: u16) -> Result<Step
 {
     reader.line_there(3)?;
     let letter = reader.letter(1)?;
-    if !K::has_letter(letter) {
-        return Err(LineFault::Word(AtWord {
-            word: 1,
-            fault: WordFault::WrongLetter,
-        }));
-    }
+    passing(K::has_letter(letter), 1, WordFault::WrongLetter)?;
     let cell = reader.number_below(2, cells)?;
     let number = reader.number(3)?;
     let order = Order { letter, number };
-    if !K::knows(order) {
-        return Err(LineFault::Word(AtWord {
-            word: 3,
-            fault: WordFault::OutOfRange,
-        }));
-    }
+    passing(K::knows(order), 3, WordFault::OutOfRange)?;
     Ok(Step { cell, order })
 }
 
@@ -129,6 +118,5 @@ pub(crate) fn choice_line(reader: &mut Reader, moves: u16) -> Result<u16, LineFa
     ensures { answered result (here reader.new) ≡ choice_line moves (here reader.old) }
 {
     reader.line_there(1)?;
-    let choice = reader.number_below(1, moves)?;
-    Ok(choice)
+    Ok(reader.number_below(1, moves)?)
 }
