@@ -1,6 +1,6 @@
 -- The listing of a run: its queues, its rest list, its outcomes and its changed cells, as bytes.
-use Rattle.std.specs.Prelude.{ℕ, zero, suc, ◌+◌, ◌-◌, Bool, true, cond, ◌&&◌, List, [], ◌∷◌, ◌++◌, map, length, Some, None, Option, nat_le, nat_lt, slice_index_or, slice_range}
-use Rattle.std.specs.List.{slice_get}
+use Rattle.std.specs.Prelude.{ℕ, zero, suc, ◌+◌, ◌-◌, Bool, cond, ◌&&◌, List, [], ◌∷◌, ◌++◌, map, length, Some, None, Option, nat_le, nat_lt, slice_index_or, slice_range}
+use Rattle.std.specs.List.{slice_get, list_all, zip}
 use Rattle.yard.specs.declared.batch.Move.{Move}
 use Rattle.yard.specs.declared.run.LaneRow.{LaneRow}
 use Rattle.yard.specs.declared.run.Outcome.{Outcome}
@@ -57,10 +57,11 @@ end_words not_ended = 0 ∷ 0 ∷ 0 ∷ []
 end_words done = 1 ∷ 0 ∷ 0 ∷ []
 end_words (failed step cause) = 2 ∷ step ∷ cause ∷ []
 
+abbrev pub outcome_line : Move × End → List ℕ
+outcome_line p = p.0.label ∷ end_words p.1
+
 abbrev pub outcome_lines : List Move → List End → List (List ℕ)
-outcome_lines [] ends = []
-outcome_lines (m ∷ ms) [] = []
-outcome_lines (m ∷ ms) (e ∷ es) = (m.label ∷ end_words e) ∷ outcome_lines ms es
+outcome_lines moves ends = map outcome_line (zip moves ends)
 
 -- E is 69
 abbrev pub outcome_section : List Move → List End → List ℕ
@@ -104,8 +105,7 @@ abbrev pub row_within : ℕ → LaneRow → Bool
 row_within n row = nat_le row.first row.end && nat_le row.end n
 
 abbrev pub rows_within : ℕ → List LaneRow → Bool
-rows_within n [] = true
-rows_within n (row ∷ rows) = row_within n row && rows_within n rows
+rows_within n = list_all (row_within n)
 
 -- the lists and the board are long enough for the run
 abbrev pub long_enough : {V : Type 0} → Run V → Bool

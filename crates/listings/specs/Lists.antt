@@ -1,8 +1,8 @@
--- The run that a program's lists tell of.
+-- The run that a record tells of.
 use Rattle.std.specs.Prelude.{List}
 use Rattle.dealing.specs.Openings.{numbers_in}
-use Rattle.listings.specs.declared.run_lists.RunLists.{RunLists}
+use Rattle.listings.specs.declared.run_record.RunRecord.{RunRecord}
 use Rattle.listings.specs.Listings.{Run, run_of}
 
-abbrev pub run_in : {V : Type 0} → RunLists V → List V → Run V
-run_in l closing = run_of (numbers_in l.opening) l.moves.now l.line_up.now l.lanes.now l.outcomes.now l.values.now closing
+abbrev pub run_in : {V : Type 0} → RunRecord V → List V → Run V
+run_in r closing = run_of (numbers_in r.opening) r.moves.now r.line_up.now r.lanes.now r.outcomes.now r.values.now closing

@@ -1,5 +1,7 @@
 //! The last section of a listing: the cells whose value is not that of the opening.
 
+#![tactic(auto, using(crate::proofs::Penned::turns))]
+
 ghost use Rattle.std.specs.Prelude.{◌≡◌, length};
 ghost use Rattle.std.specs.List.{slice_get, flat_map};
 ghost use Rattle.listings.specs.Lines.{line};
@@ -20,34 +22,21 @@ pub(crate) fn list_changes<K: Kind, B: Board<Value = K::Value>>(
 {
     pen.head(b'V', count_changes::<K, B>(values, board));
     for (cell, opened) in values.iter().enumerate() {
-        list_change::<K, B>(*opened, board, cell, pen);
+        if let Some(value) = change_of::<K, B>(*opened, board, cell) {
+            list_cell::<K>(cell, value, pen);
+        }
     }
 }
 
+// A walk of its own, since of a chain's clone nothing is known.
 fn count_changes<K: Kind, B: Board<Value = K::Value>>(values: &[K::Value], board: &B) -> usize
     ensures { result ≡ length (change_lines K.Kind.rows K.Kind.equals (B.Board.values board.now) 0 values.now) }
 {
-    let mut count = 0;
-    for (cell, opened) in values.iter().enumerate() {
-        if let Some(_) = change_of::<K, B>(*opened, board, cell) {
-            count += 1;
-        }
-    }
-    count
-}
-
-// The line of a cell, if its value has changed.
-fn list_change<K: Kind, B: Board<Value = K::Value>>(
-    opened: K::Value,
-    board: &B,
-    cell: usize,
-    pen: &mut Pen,
-)
-    ensures { penned pen.new ≡ wrote (flat_map line (change_line K.Kind.rows cell (change_of K.Kind.equals opened (slice_get (B.Board.values board.now) cell)))) (penned pen.old) }
-{
-    if let Some(value) = change_of::<K, B>(opened, board, cell) {
-        list_cell::<K>(cell, value, pen);
-    }
+    values
+        .iter()
+        .enumerate()
+        .filter(|(cell, opened)| change_of::<K, B>(**opened, board, *cell).is_some())
+        .count()
 }
 
 // What a cell holds, where that is not its opening value.
@@ -58,14 +47,10 @@ fn change_of<K: Kind, B: Board<Value = K::Value>>(
 ) -> Option<K::Value>
     ensures { result ≡ change_of K.Kind.equals opened (slice_get (B.Board.values board.now) cell) }
 {
-    let Ok(value) = board.get(cell) else {
-        return None;
-    };
-    if K::equal(value, opened) {
-        None
-    } else {
-        Some(value)
-    }
+    board
+        .get(cell)
+        .ok()
+        .filter(|value| !K::equal(*value, opened))
 }
 
 // A cell and the words of its value.

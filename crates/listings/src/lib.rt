@@ -3,10 +3,10 @@
 #![tactic(auto)]
 
 mod changes;
+mod laying;
 pub mod listing;
-mod parts;
 mod pen;
-mod run_lists;
+pub mod run_record;
 mod sections;
 pub mod slip;
 pub mod worked;

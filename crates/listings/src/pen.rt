@@ -4,6 +4,8 @@ ghost use Rattle.std.specs.Prelude.{◌≡◌, [], ◌∷◌, decimal};
 ghost use Rattle.listings.specs.Lines.{spaced};
 ghost use Rattle.listings.specs.Pens.{standing, penned, wrote};
 
+use itoa::Buffer;
+
 /// The next byte goes to `at`, if the page has that place. Bytes past the page are only counted.
 #[derive(Drop)]
 pub(crate) struct Pen<'a> {
@@ -21,10 +23,19 @@ impl<'a> Pen<'a> {
     pub(crate) fn put(&mut self, byte: u8)
         ensures { penned self.new ≡ wrote (byte ∷ []) (penned self.old) }
     {
+        // not by `get_mut`: of a slice it promises nothing about what is written through it
         if self.at < self.page.len() {
             self.page[self.at] = byte;
         }
         self.at = self.at.saturating_add(1);
+    }
+
+    pub(crate) fn write(&mut self, text: &[u8])
+        ensures { penned self.new ≡ wrote text.now (penned self.old) }
+    {
+        for byte in text {
+            self.put(*byte);
+        }
     }
 
     /// How many bytes were put, as far as a count goes.
@@ -34,14 +45,13 @@ impl<'a> Pen<'a> {
         self.at
     }
 
+    // By `itoa`, since by its contract a `write!` may fail, and a pen never does.
     /// A number, without leading zeros.
     pub(crate) fn number(&mut self, number: usize)
         ensures { penned self.new ≡ wrote (decimal number) (penned self.old) }
     {
-        if number >= 10 {
-            self.number(number / 10);
-        }
-        self.put(b'0' + (number % 10) as u8);
+        let mut digits = Buffer::new();
+        self.write(digits.format(number).as_bytes());
     }
 
     /// A space, and a number.
@@ -63,17 +73,17 @@ impl<'a> Pen<'a> {
         ensures { penned self.new ≡ wrote (letter ∷ spaced (count ∷ [])) (penned self.old) }
     {
         self.put(letter);
-        self.word(count);
-        self.end_line();
+        self.last_words(&[count]);
     }
 
-    /// The last three words of a line, and its end.
-    pub(crate) fn last_words(&mut self, first: usize, second: usize, third: usize)
-        ensures { penned self.new ≡ wrote (spaced (first ∷ second ∷ third ∷ [])) (penned self.old) }
+    /// The last words of a line, and its end.
+    #[tactic(auto, using(crate::proofs::Penned::turns))]
+    pub(crate) fn last_words(&mut self, words: &[usize])
+        ensures { penned self.new ≡ wrote (spaced words.now) (penned self.old) }
     {
-        self.word(first);
-        self.word(second);
-        self.word(third);
+        for word in words {
+            self.word(*word);
+        }
         self.end_line();
     }
 }

@@ -1,12 +1,13 @@
 //! The sections of a listing: queues, rest list and outcomes.
 
+#![tactic(auto, using(crate::proofs::Penned::turns))]
+
 ghost use Rattle.std.specs.Prelude.{◌≡◌, ◌≤◌, ◌∷◌, map, length};
 ghost use Rattle.yard.specs.Runs.{end_of};
 ghost use Rattle.listings.specs.Lines.{spaced, line};
 ghost use Rattle.listings.specs.Listings.{queue_section, rest_section, end_words, outcome_section};
 ghost use Rattle.listings.specs.Pens.{penned, wrote};
 
-use crate::parts::lane_moves;
 use crate::pen::Pen;
 use yard::batch::Move;
 use yard::run::{LaneRow, Outcome};
@@ -17,7 +18,7 @@ pub(crate) fn list_queues(queues: &[LaneRow], line_up: &[u16], pen: &mut Pen)
 {
     pen.head(b'Q', queues.len());
     for row in queues {
-        list_queue(lane_moves(line_up, *row), pen);
+        list_queue(row.places(line_up), pen);
     }
 }
 
@@ -49,9 +50,9 @@ pub(crate) fn list_outcomes(moves: &[Move], outcomes: &[Outcome], pen: &mut Pen)
     ensures { penned pen.new ≡ wrote (outcome_section moves.now (map end_of outcomes.now)) (penned pen.old) }
 {
     pen.head(b'E', moves.len());
-    for (place, found) in moves.iter().enumerate() {
+    for (found, outcome) in moves.iter().zip(outcomes) {
         pen.number(usize::from(found.label));
-        list_end(outcomes[place], pen);
+        list_end(*outcome, pen);
     }
 }
 
@@ -60,10 +61,10 @@ fn list_end(outcome: Outcome, pen: &mut Pen)
     ensures { penned pen.new ≡ wrote (spaced (end_words (end_of outcome))) (penned pen.old) }
 {
     match outcome {
-        Outcome::NotEnded => pen.last_words(0, 0, 0),
-        Outcome::Done => pen.last_words(1, 0, 0),
+        Outcome::NotEnded => pen.last_words(&[0, 0, 0]),
+        Outcome::Done => pen.last_words(&[1, 0, 0]),
         Outcome::Failed(step, cause) => {
-            pen.last_words(2, usize::from(step), usize::from(cause.number()))
+            pen.last_words(&[2, usize::from(step), usize::from(cause.number())])
         }
     }
 }

@@ -1,25 +1,17 @@
-use Rattle.std.proofs.Common.{length, Some, None, Option, arith}
-use Rattle.std.proofs.lemmas.List.{at_drop_all}
-use Rattle.listings.specs.Listings.{change_lines}
-use Rattle.listings.proofs.Changed.{count_more}
+use Rattle.std.proofs.Common.{◌∙◌, rules}
+use Rattle.std.proofs.lemmas.Iterator.{YieldsList-from_slice}
+use Rattle.std.proofs.lemmas.Iterator.Consumers.{YieldsList-from_enumerate, YieldsList-from_filter, count_from_yields_List}
+use Rattle.std.specs.List.{slice_get}
+use Rattle.std.specs.Option.{is_some}
+use Rattle.listings.specs.Listings.{change_of}
+use Rattle.listings.proofs.Changed.{counted}
 use Rattle.listings.proofs.changes.count_changes.Goals as goal
-use Rattle.listings.proofs.changes.count_changes.Goals.{in-Some, in_default}
-
-pub loop-cell-preserved : goal.loop-cell-preserved
-loop-cell-preserved g c =
-    let rows = g.K.Kind.rows in
-    let equals = g.K.Kind.equals in
-    let closing = g.B.Board.values c.args.board.now in
-    let values = c.args.values.now in
-    let k = c.loop-cell.cell in
-    let v = c.index-values-cell.result in
-    let more = λ (o : Option g.row.K-Value.Denot). count_more rows equals closing values k v (omega arith) c.index-values-cell.is o c.loop-cell.count (length (change_lines rows equals closing 0 values)) in
-    elim c.match-change_of.branch [
-      | in-Some w ↦ rw w.count-is (more (Some w.in-Some.field-0) w.in-Some.ensures c.loop-cell.invariant.0, omega (arith, c.loop-cell.invariant.1))
-      | in_default w ↦ rw w.count-is (omega (arith, more None w.in_default.ensures c.loop-cell.invariant.0), omega (arith, c.loop-cell.invariant.1))
-    ]
 
 pub returns : goal.returns
 returns g c =
-    let lines = change_lines g.K.Kind.rows g.K.Kind.equals (g.B.Board.values c.args.board.now) c.loop-cell.cell in
-    omega (arith, c.loop-cell.invariant.0, at_drop_all (λ vs. length (lines vs)) c.args.values.now c.loop-cell.cell (omega arith))
+    let equals = g.K.Kind.equals in
+    let closing = g.B.Board.values c.args.board.now in
+    let values = c.args.values.now in
+    count_from_yields_List _ _ c.count.ensures.ran
+    (YieldsList-from_filter _ (λ p. is_some (change_of equals p.1 (slice_get closing p.0))) (YieldsList-from_enumerate (YieldsList-from_slice values cc) cc) c.filter.ensures.closure (λ x b q k. search rules))
+    ∙ counted g.K.Kind.rows equals closing 0 values

@@ -1,19 +1,19 @@
 //! Whether lists and a board are those of a run, as far as a listing needs it.
 
 ghost use Rattle.std.specs.Prelude.{◌≡◌};
-ghost use Rattle.dealing.specs.Opening.{all_below};
 ghost use Rattle.listings.specs.Listings.{row_within, rows_within, long_enough, is_this_run};
 ghost use Rattle.listings.specs.Lists.{run_in};
 
-use super::RunLists;
-use crate::parts::part;
+use super::RunRecord;
+use dealing::fitting::all_below;
 use yard::board::Board;
 use yard::kind::Kind;
+use yard::part::part;
 use yard::run::LaneRow;
 
 /// Whether the lists and the board are long enough, and no lane and no place lies outside the run.
 pub(crate) fn is_this_run<K: Kind, B: Board<Value = K::Value>>(
-    run: RunLists<K::Value>,
+    run: RunRecord<K::Value>,
     board: &B,
 ) -> bool
     ensures { result ≡ is_this_run (run_in run.entry (B.Board.values board.now)) }
@@ -25,7 +25,7 @@ pub(crate) fn is_this_run<K: Kind, B: Board<Value = K::Value>>(
         && all_below(part(run.line_up, 0, moves), moves)
 }
 
-fn is_long_enough<K: Kind, B: Board<Value = K::Value>>(run: RunLists<K::Value>, board: &B) -> bool
+fn is_long_enough<K: Kind, B: Board<Value = K::Value>>(run: RunRecord<K::Value>, board: &B) -> bool
     ensures { result ≡ long_enough (run_in run.entry (B.Board.values board.now)) }
 {
     let moves = usize::from(run.opening.moves());
@@ -41,12 +41,7 @@ fn is_long_enough<K: Kind, B: Board<Value = K::Value>>(run: RunLists<K::Value>, 
 fn rows_within(rows: &[LaneRow], end: usize) -> bool
     ensures { result ≡ rows_within end rows.now }
 {
-    for row in rows {
-        if !is_within(*row, end) {
-            return false;
-        }
-    }
-    true
+    rows.iter().all(|row| is_within(*row, end))
 }
 
 // Whether a lane begins at or before its end, and ends at or before `end`.
@@ -54,16 +49,4 @@ fn is_within(row: LaneRow, end: usize) -> bool
     ensures { result ≡ row_within end row }
 {
     row.first <= row.end && usize::from(row.end) <= end
-}
-
-// Whether each place is below `end`.
-fn all_below(places: &[u16], end: usize) -> bool
-    ensures { result ≡ all_below end places.now }
-{
-    for place in places {
-        if usize::from(*place) >= end {
-            return false;
-        }
-    }
-    true
 }
