@@ -45,11 +45,11 @@ impl<'a> Pen<'a> {
         self.at
     }
 
-    // By `itoa`, since by its contract a `write!` may fail, and a pen never does.
     /// A number, without leading zeros.
     pub(crate) fn number(&mut self, number: usize)
         ensures { penned self.new ≡ wrote (decimal number) (penned self.old) }
     {
+        // not by `write!`: by its contract it may fail, and a pen never does
         let mut digits = Buffer::new();
         self.write(digits.format(number).as_bytes());
     }
