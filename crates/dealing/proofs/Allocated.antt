@@ -1,23 +1,11 @@
 -- The loop that deals the moves to lanes.
-use Rattle.std.proofs.Common.{◌≡◌, ℕ, suc, ◌+◌, ◌<◌, ◌≤◌, Bool, true, false, cond, ◌&&◌, eqb, List, [], ◌∷◌, ◌++◌, length, get_or, take, set, Some, None, Option, unwrap_or, sym, refl, ap, ◌∙◌, inl, inr, arith, below_more}
+use Rattle.std.proofs.Common.{◌≡◌, ℕ, suc, ◌+◌, ◌<◌, ◌≤◌, Bool, true, false, cond, eqb, List, [], ◌∷◌, ◌++◌, length, get_or, take, set, Some, None, Option, unwrap_or, sym, refl, ap, ◌∙◌, inl, inr, arith, below_more}
 use Rattle.std.specs.Option.{option_map}
-use Rattle.std.proofs.lemmas.List.{get_or-set_same, get_or-set_other, length_push, take_more, take_all, ext_get_or}
+use Rattle.std.proofs.lemmas.List.{get_or-set_same, get_or-set_other, get_or_append_left, get_or_push, length_push, take_more, take_all, ext_get_or}
 use Rattle.std.proofs.lemmas.Bool.{cases_eq, eq-eqb, ne_eqb}
-use Rattle.dealing.specs.Active.{head_of}
-use Rattle.dealing.specs.Lanes.{all_at, together, key_of, queue_in, noted, queues_made, lanes_in, allocated, dealt_of}
+use Rattle.dealing.specs.Lanes.{together, key_of, queue_in, noted, queues_made, lanes_in, allocated, dealt_of}
 use Rattle.dealing.proofs.NoConflict.{lane_at_lem}
 use Rattle.dealing.proofs.StandsOnce.{length_lanes}
-
--- one cluster, by the first cell
-pub together_head : (rs cs : List ℕ) (c : ℕ) → Some c ≡ head_of cs → together rs cs ≡ all_at rs (get_or rs c 0) cs
-together_head rs [] c e = absurd (let z : ◌≡◌ {A = ℕ} 0 1 = cc in omega arith)
-together_head rs (d ∷ cs) c e =
-    let p : d ≡ c = cc in
-    ap (λ (x : ℕ). all_at rs (get_or rs x 0) cs) p ∙ ap (λ (b : Bool). b && all_at rs (get_or rs c 0) cs) (sym (eq-eqb (get_or rs d 0) (get_or rs c 0) (ap (λ (x : ℕ). get_or rs x 0) p)))
-
-pub key_head : (rs cs : List ℕ) (c : ℕ) → Some c ≡ head_of cs → key_of rs cs ≡ suc (get_or rs c 0)
-key_head rs [] c e = absurd (let z : ◌≡◌ {A = ℕ} 0 1 = cc in omega arith)
-key_head rs (d ∷ cs) c e = let p : c ≡ d = cc in rw p
 
 abbrev or_else : Option ℕ → Option ℕ → Option ℕ
 or_else None o = o
@@ -58,7 +46,7 @@ keeps true None p q e = absurd (let z : ◌≡◌ {A = ℕ} 0 1 = cc in omega ar
 keeps true (Some x) p q e = e
 keeps false o p q e = e
 
-module _ (rs : List ℕ) (css : List (List ℕ)) (i n : ℕ) (qo : List (Option ℕ)) (ls cs : List ℕ) (hi : i < length css) (hl : i < length ls)
+module _ (rs : List ℕ) (css : List (List ℕ)) (i n : ℕ) (qo : List (Option ℕ)) (ls cs : List ℕ) (hi : i < length css) (hl : length ls ≡ i)
     (ec : cs ≡ get_or css i []) (old : Queued rs css i n qo ls) where
   abbrev made : List ℕ
   made = queues_made rs (take i css) []
@@ -67,26 +55,26 @@ module _ (rs : List ℕ) (css : List (List ℕ)) (i n : ℕ) (qo : List (Option 
   more = rw (take_more css i [] hi, ← ec) (made_push rs (take i css) cs [])
 
   lanes_more : (ms : List ℕ) (q : ℕ) → ((k : ℕ) → k < i → lane_at rs ms (get_or css k []) ≡ Some (get_or ls k 0)) → lane_at rs ms cs ≡ Some q →
-      (k : ℕ) → k < i + 1 → lane_at rs ms (get_or css k []) ≡ Some (get_or (set ls i q) k 0)
+      (k : ℕ) → k < i + 1 → lane_at rs ms (get_or css k []) ≡ Some (get_or (ls ++ q ∷ []) k 0)
   lanes_more ms q kept here =
-      below_more (λ k. lane_at rs ms (get_or css k []) ≡ Some (get_or (set ls i q) k 0)) i
-      (λ k h. kept k h ∙ ap (λ (x : ℕ). Some x) (sym (get_or-set_other ls i k q 0 (λ e. omega arith))))
-      (ap (lane_at rs ms) (sym ec) ∙ here ∙ ap (λ (x : ℕ). Some x) (sym (get_or-set_same ls i q 0 hl)))
+      below_more (λ k. lane_at rs ms (get_or css k []) ≡ Some (get_or (ls ++ q ∷ []) k 0)) i
+      (λ k h. kept k h ∙ ap (λ (x : ℕ). Some x) (sym (get_or_append_left ls (q ∷ []) 0 k (omega arith))))
+      (ap (lane_at rs ms) (sym ec) ∙ here ∙ ap (λ (x : ℕ). Some x) (sym (get_or_push ls q 0 i hl)))
 
   -- two clusters or more
-  pub queued_rest : together rs cs ≡ false → Queued rs css (i + 1) n qo (set ls i 0)
+  pub queued_rest : together rs cs ≡ false → Queued rs css (i + 1) n qo (ls ++ 0 ∷ [])
   queued_rest t =
       let m : queues_made rs (take (i + 1) css) [] ≡ made = more ∙ (rw t) in
       record { count = rw m old.count; queues = rw m old.queues; lanes = rw m (lanes_more made 0 old.lanes (rw t)) }
 
   module _ (key : ℕ) (t : together rs cs ≡ true) (ek : key ≡ key_of rs cs) (hk : key < 1025) where
-    pub queued_old : (q : ℕ) → get_or qo key None ≡ Some q → Queued rs css (i + 1) n qo (set ls i q)
+    pub queued_old : (q : ℕ) → get_or qo key None ≡ Some q → Queued rs css (i + 1) n qo (ls ++ q ∷ [])
     queued_old q e =
         let f : queue_in made (key_of rs cs) ≡ Some q = rw ek at (sym (old.queues key hk) ∙ e) in
         let m : queues_made rs (take (i + 1) css) [] ≡ made = more ∙ (rw (t, f)) in
         record { count = rw m old.count; queues = rw m old.queues; lanes = rw m (lanes_more made q old.lanes (rw t f)) }
 
-    pub queued_new : length qo ≡ 1025 → get_or qo key None ≡ None → Queued rs css (i + 1) (n + 1) (set qo key (Some (n + 1))) (set ls i (n + 1))
+    pub queued_new : length qo ≡ 1025 → get_or qo key None ≡ None → Queued rs css (i + 1) (n + 1) (set qo key (Some (n + 1))) (ls ++ (n + 1) ∷ [])
     queued_new lq e =
         let none : queue_in made key ≡ None = sym (old.queues key hk) ∙ e in
         let f : queue_in made (key_of rs cs) ≡ None = rw ek at none in

@@ -1,4 +1,6 @@
 pub mod NoConflict
+pub mod Continuing
+pub mod Specials
 pub mod StandsOnce
 pub mod Naming
 pub mod Touching

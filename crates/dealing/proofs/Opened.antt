@@ -34,20 +34,19 @@ pub lists_same : {u u' : List ℕ} {r r' : List LaneRow} {o o' : List Outcome} {
 lists_same a b c d e f = rw (a, b, c, d, e, f)
 
 -- what the test of the lists says
-pub room_in : (line_up : List ℕ) (lanes : List LaneRow) (outcomes : List Outcome) (parents marks pairs : List ℕ) → roomy (lists line_up lanes outcomes parents marks pairs) ≡ true →
-    Roomy line_up lanes outcomes parents marks pairs
-room_in line_up lanes outcomes parents marks pairs e =
-    let five = and_left _ (leb 4096 (length pairs)) e in
-    let four = and_left _ (leb 1024 (length marks)) five in
-    let three = and_left _ (leb 1024 (length parents)) four in
-    let two = and_left _ (leb 256 (length outcomes)) three in
+pub room_in : (l : Lists) → roomy l ≡ true → Roomy l
+room_in l e =
+    let five = and_left _ (leb 4096 (length l.pairs)) e in
+    let four = and_left _ (leb 1024 (length l.marks)) five in
+    let three = and_left _ (leb 1024 (length l.parents)) four in
+    let two = and_left _ (leb 256 (length l.outcomes)) three in
     record {
-      line_up_long = leb-true 256 (length line_up) (and_left (leb 256 (length line_up)) (leb 257 (length lanes)) two);
-      lanes_long = leb-true 257 (length lanes) (and_right (leb 256 (length line_up)) (leb 257 (length lanes)) two);
-      outcomes_long = leb-true 256 (length outcomes) (and_right _ (leb 256 (length outcomes)) three);
-      parents_long = leb-true 1024 (length parents) (and_right _ (leb 1024 (length parents)) four);
-      marks_long = leb-true 1024 (length marks) (and_right _ (leb 1024 (length marks)) five);
-      pairs_long = leb-true 4096 (length pairs) (and_right _ (leb 4096 (length pairs)) e);
+      line_up_long = leb-true 256 (length l.line_up) (and_left (leb 256 (length l.line_up)) (leb 257 (length l.lanes)) two);
+      lanes_long = leb-true 257 (length l.lanes) (and_right (leb 256 (length l.line_up)) (leb 257 (length l.lanes)) two);
+      outcomes_long = leb-true 256 (length l.outcomes) (and_right _ (leb 256 (length l.outcomes)) three);
+      parents_long = leb-true 1024 (length l.parents) (and_right _ (leb 1024 (length l.parents)) four);
+      marks_long = leb-true 1024 (length l.marks) (and_right _ (leb 1024 (length l.marks)) five);
+      pairs_long = leb-true 4096 (length l.pairs) (and_right _ (leb 4096 (length l.pairs)) e);
     }
 
 -- the front of a list was lent and came back as n times x

@@ -1,12 +1,10 @@
 -- Spot and fuse: what one move makes of the state, and one turn of the loops over choices and moves.
-use Rattle.std.proofs.Common.{◌≡◌, ℕ, zero, suc, ◌+◌, ◌<◌, ◌≤◌, Bool, true, false, cond, ltb, List, [], ◌∷◌, ◌++◌, length, get_or, take, drop, replicate, Some, None, Option, sym, refl, ap, ◌∙◌, inl, inr, arith}
+use Rattle.std.proofs.Common.{◌≡◌, ℕ, zero, suc, ◌+◌, ◌<◌, ◌≤◌, Bool, true, false, cond, ltb, List, [], ◌∷◌, ◌++◌, length, get_or, take, drop, replicate, Option, sym, refl, ap, ◌∙◌, inl, inr, arith}
 use Rattle.std.proofs.lemmas.Bool.{cases_eq}
 use Rattle.std.proofs.lemmas.List.{drop_more, take_more, get_or-replicate, length_push, length-replicate, get_or_append_left, get_or_push}
-use Rattle.dealing.specs.Active.{head_of}
 use Rattle.dealing.specs.Counting.{with_one, Countable, Counted, both_hit, Fusing, pair_place}
 use Rattle.dealing.specs.Examining.{AllBelow}
-use Rattle.dealing.specs.Stages.{hits, trues, counts, joined_cells, grown, Clusters, clusters_of, spot, spot_one, Fused, fused_of, fuse, fuse_one, count_pair}
-use Rattle.dealing.proofs.Naming.{head_is}
+use Rattle.dealing.specs.Stages.{hits, trues, joined_cells, grown, Clusters, clusters_of, spot, spot_one, Fused, fused_of, fuse, fuse_one, count_pair}
 
 pub below_push : (n : ℕ) (xs : List ℕ) (c : ℕ) → AllBelow n xs → c < n → AllBelow n (xs ++ c ∷ [])
 below_push n xs c b h k l =
@@ -14,14 +12,6 @@ below_push n xs c b h k l =
       | inl e ↦ rw (e, get_or_push xs c 0 (length xs) refl) h
       | inr e ↦ rw (get_or_append_left xs (c ∷ []) 0 k (omega (arith, length_push xs c))) (b k (omega (arith, length_push xs c)))
     ]
-
--- spot: a choice that is passed over changes nothing; any other makes a special cluster, known by its first cell
-module _ (cs rs special : List ℕ) where
-  pub spot_not : counts rs special cs ≡ false → clusters_of rs (with_one special None) ≡ spot_one cs (clusters_of rs special)
-  spot_not e = rw e
-
-  pub spot_so : (c : ℕ) (rt : List ℕ) → counts rs special cs ≡ true → Some c ≡ head_of cs → rt ≡ joined_cells cs rs → clusters_of rt (with_one special (Some c)) ≡ spot_one cs (clusters_of rs special)
-  spot_so c rt e h er = rw (e, er, head_is cs c h)
 
 -- one choice more; us is the part of the list in which the special clusters stand
 pub spot_more : (css : List (List ℕ)) (choices : List ℕ) (i : ℕ) (cs rs rt special us after : List ℕ) (made : Option ℕ) (K : Clusters) → i < length choices → cs ≡ get_or css (get_or choices i 0) [] →
@@ -35,6 +25,10 @@ spot_more css choices i cs rs rt special us after made K hi ec eu e ea inv =
 pub fusing_none : (special rs sizes pairs : List ℕ) → pairs ≡ replicate 4096 0 → length special ≤ 64 → Fusing special (fused_of rs sizes []) rs sizes pairs 0
 fusing_none special rs sizes pairs e h =
     record { roots = refl; sizes = refl; skipped = refl; pairs = λ a b l m. rw e (get_or-replicate 4096 (pair_place a b) 0 0 (omega arith)) }
+
+pub length_hits : (rs special cs : List ℕ) → length (hits rs special cs) ≡ length special
+length_hits rs [] cs = refl
+length_hits rs (p ∷ special) cs = ap suc (length_hits rs special cs)
 
 -- one move more, which is skipped or joined
 module _ (special cs rs sizes pairs : List ℕ) (n : ℕ) (f : Fused) (old : Fusing special f rs sizes pairs n) where
@@ -104,14 +98,6 @@ small_all special (cs ∷ css) n s f small =
 
 pub zeros_long : (n : ℕ) (xs : List ℕ) → xs ≡ replicate n 0 → length xs ≡ n
 zeros_long n xs e = ap length e ∙ length-replicate n 0
-
--- marks that were clear, and are clear again
-pub clear_again : (n : ℕ) (new ms old : List ℕ) → new ≡ replicate (length ms) 0 → ms ≡ old → old ≡ replicate n 0 → new ≡ old
-clear_again n new ms old p q r =
-    p ∙ ap zeros (ap length q ∙ zeros_long n old r) ∙ sym r
-  where
-    zeros : ℕ → List ℕ
-    zeros k = replicate k 0
 
 zeros_below : (n : ℕ) (xs : List ℕ) → xs ≡ replicate n 0 → AllBelow 1 xs
 zeros_below n xs e k h = rw e (omega (arith, at k (omega (arith, zeros_long n xs e))))

@@ -1,17 +1,12 @@
 -- The stages put together.
-use Rattle.std.proofs.Common.{◌≡◌, ℕ, ◌-◌, ◌≤◌, Bool, List, [], length, take, replicate, ap, ◌∙◌, arith}
+use Rattle.std.proofs.Common.{◌≡◌, ℕ, Bool, List, [], length, replicate, ap, ◌∙◌}
 use Rattle.std.specs.List.{range_with_len}
-use Rattle.std.proofs.lemmas.List.{take-replicate}
 use Rattle.yard.specs.Rules.{Rules}
 use Rattle.yard.specs.declared.batch.Step.{Step}
 use Rattle.yard.specs.declared.batch.Move.{Move}
 use Rattle.dealing.specs.Active.{active_flags, move_cells}
 use Rattle.dealing.specs.Stages.{Clusters, clusters_of, spot, fuse, fused_of, fused_all, merge, clustered}
 use Rattle.dealing.specs.Lanes.{allocated, dealt}
-
--- the part of a list of 64 zeros that is lent
-pub zeros_lent : (n : ℕ) → n ≤ 64 → take (n - 0) (replicate 64 0) ≡ replicate {A = ℕ} n 0
-zeros_lent n h = let e : n - 0 ≡ n = omega arith in rw e (take-replicate n 64 0 h)
 
 -- spot, fuse and merge; us is the list of special clusters that spot left, and special the part of it that is lent on
 pub cluster_is : (cells share moves : ℕ) (css : List (List ℕ)) (choices rs0 rs special us sizes rt : List ℕ) → rs0 ≡ range_with_len 0 cells → clusters_of rs us ≡ spot css choices (clusters_of rs0 []) →

@@ -1,10 +1,9 @@
 -- What the stages ask of a batch and of the lists that they work with.
 use Rattle.std.specs.Prelude.{◌≡◌, ℕ, ◌≤◌, List, length}
-use Rattle.yard.specs.declared.run.LaneRow.{LaneRow}
-use Rattle.yard.specs.declared.run.Outcome.{Outcome}
 use Rattle.yard.specs.Batches.{Listed}
 use Rattle.dealing.specs.Active.{Within, Inside}
 use Rattle.dealing.specs.Examining.{AllBelow}
+use Rattle.dealing.specs.Opening.{Lists}
 
 -- a batch that can be dealt
 pub record Dealable (b : Listed) : Type 0 where
@@ -22,10 +21,10 @@ pub record Working (cells : ℕ) (parents marks pairs : List ℕ) : Type 0 where
   pub pairs_long : length pairs ≡ 4096
 
 -- lists of full lengths to fill and to work with
-pub record Roomy (line_up : List ℕ) (lanes : List LaneRow) (outcomes : List Outcome) (parents marks pairs : List ℕ) : Type 0 where
-  pub line_up_long : 256 ≤ length line_up
-  pub lanes_long : 257 ≤ length lanes
-  pub outcomes_long : 256 ≤ length outcomes
-  pub parents_long : 1024 ≤ length parents
-  pub marks_long : 1024 ≤ length marks
-  pub pairs_long : 4096 ≤ length pairs
+pub record Roomy (l : Lists) : Type 0 where
+  pub line_up_long : 256 ≤ length l.line_up
+  pub lanes_long : 257 ≤ length l.lanes
+  pub outcomes_long : 256 ≤ length l.outcomes
+  pub parents_long : 1024 ≤ length l.parents
+  pub marks_long : 1024 ≤ length l.marks
+  pub pairs_long : 4096 ≤ length l.pairs

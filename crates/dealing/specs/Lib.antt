@@ -1,5 +1,7 @@
 pub mod Active
 pub mod Prepared
+pub mod Special
+pub mod Clustering
 pub mod Stages
 pub mod Examining
 pub mod Counting
@@ -8,4 +10,5 @@ pub mod Lanes
 pub mod Touched
 pub mod Opening
 pub mod Openings
+pub mod Lent
 pub mod Facts

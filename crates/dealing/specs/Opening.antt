@@ -1,5 +1,6 @@
 -- Open: when it refuses, and what it leaves in the lists that are lent to it.
-use Rattle.std.specs.Prelude.{◌≡◌, ℕ, ◌+◌, Bool, true, cond, ◌&&◌, List, [], ◌∷◌, length, replicate, Some, None, Ok, Err, Option, Result, ◌==◌, nat_le, nat_lt}
+use Rattle.std.specs.Prelude.{◌≡◌, ℕ, ◌+◌, Bool, cond, ◌&&◌, List, [], ◌∷◌, length, replicate, Some, None, Ok, Err, Option, Result, ◌==◌, nat_le, nat_lt}
+use Rattle.std.specs.List.{list_all}
 use Rattle.yard.specs.declared.refusal.Refusal.{Refusal}
 use Rattle.yard.specs.declared.batch.Step.{Step}
 use Rattle.yard.specs.declared.batch.Move.{Move}
@@ -33,16 +34,14 @@ abbrev pub in_range : Listed → Bool
 in_range b = nat_le 1 b.share && nat_le b.share 1000 && nat_le 1 b.cells && nat_le b.cells 1024
 
 abbrev pub all_below : ℕ → List ℕ → Bool
-all_below n [] = true
-all_below n (x ∷ xs) = nat_lt x n && all_below n xs
+all_below n xs = list_all (λ x. nat_lt x n) xs
 
 -- a step is an order that the kind knows, and the cells that it names are below the cells
 abbrev pub known : {V : Type 0} → Rules V → ℕ → Step → Bool
 known R cells s = R.knows s.order.letter s.order.number && all_below cells (names s)
 
 abbrev pub all_known : {V : Type 0} → Rules V → ℕ → List Step → Bool
-all_known R cells [] = true
-all_known R cells (s ∷ ss) = known R cells s && all_known R cells ss
+all_known R cells ss = list_all (known R cells) ss
 
 -- the lists that open writes: what it fills, and what it works with
 pub record Lists : Type 0 where

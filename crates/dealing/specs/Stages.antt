@@ -1,6 +1,6 @@
 -- Spot, fuse and merge, over the list of roots by cell. A move is the list of its active cells; a special cluster is known by one of its cells, so that its number lasts as it grows.
 use Rattle.std.specs.Prelude.{ℕ, ◌+◌, ◌-◌, ◌*◌, Bool, false, cond, ◌&&◌, ◌||◌, List, [], ◌∷◌, ◌++◌, length, replicate, ◌==◌, nat_le, nat_lt, slice_index, slice_index_or}
-use Rattle.std.specs.List.{range_with_len}
+use Rattle.std.specs.List.{count_by, range_with_len}
 use Rattle.clusters.specs.Roots.{joined_roots}
 
 -- r is the root of one of the cells
@@ -15,8 +15,7 @@ hits rs (p ∷ special) cs = rooted rs cs (slice_index rs p) ∷ hits rs special
 
 -- how many of the tests hold
 abbrev pub trues : List Bool → ℕ
-trues [] = 0
-trues (b ∷ bs) = cond b 1 0 + trues bs
+trues bs = count_by (λ b. b) bs
 
 -- the clusters of cells joined with that of the first
 abbrev pub joined_with : ℕ → List ℕ → List ℕ → List ℕ

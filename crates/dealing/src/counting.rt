@@ -3,17 +3,21 @@
 ghost use Rattle.std.specs.Prelude.{◌≡◌, ℕ, ◌<◌, ◌≤◌, false, ◌&&◌, length, ◌==◌, slice_index_or};
 ghost use Rattle.dealing.specs.Counting.{pair_place, pair_count, Counted, both_hit};
 ghost use Rattle.dealing.specs.Examining.{AllBelow};
+ghost use Rattle.dealing.specs.Special.{cells_known, sizes_in};
 ghost use Rattle.dealing.specs.Stages.{grown};
 
+use crate::special::Special;
+
 /// The size of each special cluster that is hit grows by 1.
-pub(crate) fn grow(sizes: &mut [u16], hit: &[bool])
-    requires same { length hit.now ≡ length sizes.old }
-    requires room { AllBelow 65535 sizes.old }
-    ensures { sizes.new ≡ grown hit.now sizes.old }
+pub(crate) fn grow(special: &mut [Special], hit: &[bool])
+    requires same { length hit.now ≡ length special.old }
+    requires room { AllBelow 65535 (sizes_in special.old) }
+    ensures sizes { sizes_in special.new ≡ grown hit.now (sizes_in special.old) }
+    ensures known { cells_known special.new ≡ cells_known special.old }
 {
-    for i in 0..sizes.len() {
-        if hit[i] {
-            sizes[i] += 1;
+    for (i, here) in hit.iter().enumerate() {
+        if *here {
+            special[i].size += 1;
         }
     }
 }
@@ -34,8 +38,8 @@ pub(crate) fn count_pairs(pairs: &mut [u16], hit: &[bool])
     requires room { (a b : ℕ) → a < b → b < length hit.now → pair_count pairs.old a b < 65535 }
     ensures { Counted (length hit.now) (both_hit hit.now) pairs.old pairs.new }
 {
-    for i in 0..hit.len() {
-        if hit[i] {
+    for (i, here) in hit.iter().enumerate() {
+        if *here {
             count_with(pairs, hit, i);
         }
     }
@@ -49,6 +53,7 @@ fn count_with(pairs: &mut [u16], hit: &[bool], i: usize)
     requires room { (b : ℕ) → i < b → b < length hit.now → pair_count pairs.old i b < 65535 }
     ensures { Counted (length hit.now) (λ a b. (a == i) && slice_index_or hit.now b false) pairs.old pairs.new }
 {
+    // by number: a chain that skips does not tell the proof which places are left
     for j in i + 1..hit.len() {
         if hit[j] {
             pairs[pair_place(i, j)] += 1;

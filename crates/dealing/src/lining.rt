@@ -21,6 +21,7 @@ pub(crate) fn line_up_moves(
     ensures lanes { lanes.new ≡ laid (lane_rows (dealt_of lane_of.now queues)) lanes.old }
 {
     let mut at = 0;
+    // by number: the queue made after q others is lane q + 1
     for q in 0..queues {
         let end = line_up_lane(lane_of, (q + 1) as u16, line_up, at);
         lanes[q + 1] = new_row(at, end);

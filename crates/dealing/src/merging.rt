@@ -2,64 +2,63 @@
 
 ghost use Rattle.std.specs.Prelude.{◌≡◌, ◌+◌, ◌-◌, ◌*◌, ◌<◌, ◌≤◌, length, nat_le};
 ghost use Rattle.std.specs.List.{range_with_len};
-ghost use Rattle.clusters.specs.Roots.{roots_of};
-ghost use Rattle.dealing.specs.Counting.{Specials, Fusing, pair_count};
+ghost use Rattle.arrayvec.specs.ArrayVec.{array_vec_len};
+ghost use Rattle.dealing.specs.Clustering.{roots_in, move_total, known, sizes, IsAt, GoesOn};
+ghost use Rattle.dealing.specs.Counting.{pair_count};
 ghost use Rattle.dealing.specs.Stages.{Fused, merge_row, merge as merged};
 
+use crate::clustering::SpecialClusters;
 use crate::counting::pair_place;
-use crate::rooting::join_two;
+use crate::special::Special;
 
-/// Merge: if enough of all moves were skipped, each two special clusters are joined that share enough of theirs. Sizes and counts are those that fuse left.
-pub(crate) fn merge(
-    parents: &mut [u16],
-    special: &[u16],
-    sizes: &[u16],
-    pairs: &[u16],
-    share: u16,
-    moves: usize,
-    skipped: usize,
-)
-    requires few { length parents.old ≤ 1024 }
-    requires special { Specials (length parents.old) special.now }
-    requires sizes { length sizes.now ≡ length special.now }
-    requires pairs { length pairs.now ≡ 4096 }
-    requires moves { moves ≤ 256 }
-    requires skipped { skipped ≤ moves }
-    ensures { (f : Fused) → Fusing special.now f (roots_of parents.old) sizes.now pairs.now skipped
-        → roots_of parents.new ≡ merged share moves special.now f }
-{
-    if !enough(share, moves, skipped) {
-        return;
+impl SpecialClusters<'_> {
+    /// Merge: if enough of all moves were skipped, each two special clusters are joined that share enough of theirs.
+    pub(crate) fn merge(&mut self, share: u16)
+        requires { self.old.skipped ≤ move_total self.old.clusters }
+        ensures roots { (f : Fused) → IsAt self.old f → roots_in self.new.clusters ≡ merged share (move_total self.old.clusters) (known self.old) f }
+        ensures same { GoesOn self.old self.new }
+    {
+        if !enough(share, self.clusters.prepared.moves.len(), self.skipped) {
+            return;
+        }
+        // by number, since each turn needs the whole
+        for i in 0..self.special.len() {
+            self.merge_with(share, i);
+        }
     }
-    for i in 0..special.len() {
-        merge_with(parents, special, sizes, pairs, share, i);
+
+    // Joins special cluster `i` with each later one that it shares enough moves with.
+    fn merge_with(&mut self, share: u16, i: usize)
+        requires { i < length (known self.old) }
+        ensures roots { roots_in self.new.clusters
+            ≡ merge_row share (known self.old) (sizes self.old) (pair_count self.old.pairs.now) i (range_with_len (i + 1) (length (known self.old) - (i + 1))) (roots_in self.old.clusters) }
+        ensures sizes { sizes self.new ≡ sizes self.old }
+        ensures pairs { self.new.pairs.now ≡ self.old.pairs.now }
+        ensures same { GoesOn self.old self.new }
+    {
+        let one = self.special[i];
+        // by number: a chain that skips does not tell the proof which places are left
+        for j in i + 1..self.special.len() {
+            let other = self.special[j];
+            let both = self.pairs[pair_place(i, j)];
+            if share_enough(share, one, other, both) {
+                self.clusters
+                    .join_at(usize::from(one.cell), usize::from(other.cell));
+            }
+        }
     }
 }
 
-// Joins special cluster `i` with each later one that it shares enough moves with.
-fn merge_with(
-    parents: &mut [u16],
-    special: &[u16],
-    sizes: &[u16],
-    pairs: &[u16],
-    share: u16,
-    i: usize,
-)
-    requires few { length parents.old ≤ 1024 }
-    requires special { Specials (length parents.old) special.now }
-    requires inside { i < length special.now }
-    requires sizes { length sizes.now ≡ length special.now }
-    requires pairs { length pairs.now ≡ 4096 }
-    ensures { roots_of parents.new
-        ≡ merge_row share special.now sizes.now (pair_count pairs.now) i (range_with_len (i + 1) (length special.now - (i + 1))) (roots_of parents.old) }
+// Whether two special clusters share enough moves: `both` touch the two, and were skipped.
+fn share_enough(share: u16, one: Special, other: Special, both: u16) -> bool
+    ensures { result ≡ nat_le (share * (one.size + other.size + both)) (1000 * both) }
 {
-    for j in i + 1..special.len() {
-        let both = usize::from(pairs[pair_place(i, j)]);
-        let all = usize::from(sizes[i]) + usize::from(sizes[j]) + both;
-        if enough(share, all, both) {
-            join_two(parents, usize::from(special[i]), usize::from(special[j]));
-        }
-    }
+    let part = usize::from(both);
+    enough(
+        share,
+        usize::from(one.size) + usize::from(other.size) + part,
+        part,
+    )
 }
 
 // Whether `part` of `all` is at least the share, which is in thousandths.

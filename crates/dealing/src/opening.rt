@@ -3,6 +3,7 @@
 ghost use Rattle.std.specs.Prelude.{◌≤◌};
 
 pub mod checking;
+pub mod lists;
 pub mod making;
 pub mod telling;
 

@@ -1,7 +1,6 @@
 //! A batch whose active cells are known: what the stages after prepare only read.
 
 ghost use Rattle.std.specs.Prelude.{◌≤◌, length};
-ghost use Rattle.dealing.specs.Active.{Within, Inside};
 
 use yard::batch::{Move, Step};
 
@@ -9,21 +8,18 @@ pub mod naming;
 
 /// The active cells that the steps of one move name. `active` says of each cell whether it is.
 #[derive(Clone, Copy)]
-pub struct ActiveCells<'a, 'b> {
+pub struct ActiveCells<'a> {
     pub active: &'a [bool],
-    pub steps: &'b [Step],
+    pub steps: &'a [Step],
     ghost few: { length active.now ≤ 1024 },
-    ghost within: { Within (length active.now) steps.now },
 }
 
 /// The moves of a batch with their steps. `active` says of each cell whether some step writes it.
 #[derive(Clone, Copy)]
-pub struct Prepared<'a, 'b, 'c> {
+pub struct Prepared<'a> {
     pub active: &'a [bool],
-    pub steps: &'b [Step],
-    pub moves: &'c [Move],
+    pub steps: &'a [Step],
+    pub moves: &'a [Move],
     ghost few: { length active.now ≤ 1024 },
     ghost few_moves: { length moves.now ≤ 256 },
-    ghost within: { Within (length active.now) steps.now },
-    ghost inside: { Inside steps.now moves.now },
 }

@@ -1,85 +1,57 @@
 //! Spot, the second stage: chosen moves make special clusters.
 
-ghost use Rattle.std.specs.Prelude.{◌≡◌, ◌<◌, ◌≤◌, [], length, take, replicate, IfSome};
-ghost use Rattle.clusters.specs.Roots.{roots_of};
+ghost use Rattle.std.specs.Prelude.{◌≡◌, ◌<◌, ◌≤◌, [], length, replicate, IfSome};
+ghost use Rattle.arrayvec.specs.ArrayVec.{array_vec_len};
+ghost use Rattle.dealing.specs.Clustering.{roots_in, cell_total, named_by, named_by_all, move_total, Continues};
 ghost use Rattle.dealing.specs.Counting.{Specials, with_one};
 ghost use Rattle.dealing.specs.Examining.{AllBelow};
-ghost use Rattle.dealing.specs.Prepared.{cells_in, cell_count, all_cells, move_count};
+ghost use Rattle.dealing.specs.Special.{cells_known, sizes_in};
 ghost use Rattle.dealing.specs.Stages.{clusters_of, spot_one, spot as spotted};
 
-use crate::examining::{hits, mark_roots};
-use crate::prepared::{ActiveCells, Prepared};
-use crate::rooting::join_with;
-use clusters::marks::Marked;
+use crate::clustering::Clustering;
+use crate::examining::touched_count;
+use crate::special::Special;
+use arrayvec::ArrayVec;
+use yard::batch::Move;
+use yard::full::CHOICES;
 
-/// Spot: takes the choices in order. The cells by which the special clusters are known go to the front of `special`; how many there are is returned.
-pub(crate) fn spot(
-    parents: &mut [u16],
-    marks: &mut [u8],
-    prepared: Prepared,
-    choices: &[u16],
-    special: &mut [u16],
-    hit: &mut [bool],
-) -> usize
-    requires long { length parents.old ≡ length prepared.active.now }
-    requires clear { marks.old ≡ replicate (length parents.old) 0 }
-    requires chosen { AllBelow (move_count prepared) choices.now }
-    requires few { length choices.now ≤ 64 }
-    requires special { length special.old ≡ 64 }
-    requires hit { length hit.old ≡ 64 }
-    ensures spotted { clusters_of (roots_of parents.new) (take result special.new)
-        ≡ spotted (all_cells prepared.entry) choices.now (clusters_of (roots_of parents.old) []) }
-    ensures special { Specials (length parents.old) (take result special.new) }
-    ensures few { result ≤ 64 }
-    ensures clear { marks.new ≡ marks.old }
-{
-    let mut count = 0;
-    for choice in choices {
-        let cells = prepared.cells_of(usize::from(*choice));
-        match spot_move(
-            parents,
-            marks,
-            cells,
-            &special[0..count],
-            &mut hit[0..count],
-        ) {
-            Some(cell) => {
-                special[count] = cell as u16;
-                count += 1;
+impl Clustering<'_> {
+    /// Spot: takes the choices in order. The special clusters that they make are returned.
+    pub(crate) fn spot(&mut self, choices: &[u16]) -> ArrayVec<Special, CHOICES>
+        requires chosen { AllBelow (move_total self.old) choices.now }
+        requires few { length choices.now ≤ 64 }
+        ensures spotted { clusters_of (roots_in self.new) (cells_known result.items)
+            ≡ spotted (named_by_all self.old) choices.now (clusters_of (roots_in self.old) []) }
+        ensures special { Specials (cell_total self.old) (cells_known result.items) }
+        ensures sizes { sizes_in result.items ≡ replicate (length result.items) 0 }
+        ensures same { Continues self.old self.new }
+    {
+        let mut special = ArrayVec::new();
+        for choice in choices {
+            let found = self.prepared.moves[usize::from(*choice)];
+            if let Some(cell) = self.spot_move(found, &special) {
+                special.push(Special {
+                    cell: cell as u16,
+                    size: 0,
+                });
             }
-            None => {}
         }
+        special
     }
-    count
-}
 
-// Joins the clusters of a chosen move to a special one, if it has an active cell and touches no special cluster: its first active cell is then returned.
-fn spot_move(
-    parents: &mut [u16],
-    marks: &mut [u8],
-    cells: ActiveCells,
-    special: &[u16],
-    hit: &mut [bool],
-) -> Option<usize>
-    requires long { length parents.old ≡ cell_count cells }
-    requires marks { length marks.old ≡ length parents.old }
-    requires special { AllBelow (length parents.old) special.now }
-    requires hit { length hit.old ≡ length special.now }
-    ensures spotted { clusters_of (roots_of parents.new) (with_one special.now result)
-        ≡ spot_one (cells_in cells.entry) (clusters_of (roots_of parents.old) special.now) }
-    ensures within { IfSome result (λ cell. cell < length parents.old) }
-    ensures clear { marks.new ≡ replicate (length marks.old) 0 }
-{
-    let mut marked = Marked::over(marks);
-    match cells.first() {
-        None => None,
-        Some(first) => {
-            mark_roots(&mut marked, parents, cells);
-            if hits(&marked, parents, special, hit) > 0 {
-                return None;
-            }
-            join_with(parents, first, cells);
-            Some(first)
+    // Joins the clusters of a chosen move to a special one, if it has an active cell and touches no special cluster: its first active cell is then returned.
+    fn spot_move(&mut self, found: Move, special: &[Special]) -> Option<usize>
+        requires { Specials (cell_total self.old) (cells_known special.now) }
+        ensures spotted { clusters_of (roots_in self.new) (with_one (cells_known special.now) result)
+            ≡ spot_one (named_by self.old found) (clusters_of (roots_in self.old) (cells_known special.now)) }
+        ensures within { IfSome result (λ cell. cell < cell_total self.old) }
+        ensures same { Continues self.old self.new }
+    {
+        let first = self.prepared.cells_of(found).first()?;
+        if touched_count(&self.hits(found, special)) > 0 {
+            return None;
         }
+        self.join_cells(found);
+        Some(first)
     }
 }

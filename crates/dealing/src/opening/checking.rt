@@ -2,9 +2,10 @@
 
 ghost use Rattle.std.specs.Prelude.{◌≡◌};
 ghost use Rattle.yard.specs.Batches.{listed};
-ghost use Rattle.dealing.specs.Opening.{begins_at, end_to_end, shaped, in_range, known, all_known, all_below, refusal, refused_by};
+ghost use Rattle.dealing.specs.Opening.{begins_at, end_to_end, shaped, in_range, refusal, refused_by};
 
-use yard::batch::{Batch, Move, Step};
+use crate::fitting::{all_below, all_known};
+use yard::batch::{Batch, Move};
 use yard::full::{CELLS, CHOICES, MOVES, STEPS};
 use yard::kind::Kind;
 use yard::refusal::Refusal;
@@ -69,33 +70,4 @@ fn is_in_range(batch: Batch) -> bool
     ensures { result ≡ in_range (listed batch.entry) }
 {
     batch.share >= 1 && batch.share <= 1000 && batch.cells >= 1 && usize::from(batch.cells) <= CELLS
-}
-
-// Whether each step is an order that the kind knows, on a cell below `cells`.
-fn all_known<K: Kind>(steps: &[Step], cells: usize) -> bool
-    ensures { result ≡ all_known K.Kind.rules cells steps.now }
-{
-    for step in steps {
-        if !is_known::<K>(*step, cells) {
-            return false;
-        }
-    }
-    true
-}
-
-fn is_known<K: Kind>(step: Step, cells: usize) -> bool
-    ensures { result ≡ known K.Kind.rules cells step }
-{
-    K::knows(step.order) && usize::from(step.cell) < cells
-}
-
-fn all_below(choices: &[u16], count: usize) -> bool
-    ensures { result ≡ all_below count choices.now }
-{
-    for choice in choices {
-        if usize::from(*choice) >= count {
-            return false;
-        }
-    }
-    true
 }

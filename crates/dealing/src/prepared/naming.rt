@@ -2,10 +2,10 @@
 
 ghost use Rattle.std.specs.Prelude.{◌≡◌, ◌<◌, [], ◌∷◌, length, IfSome};
 ghost use Rattle.dealing.specs.Active.{Within, active_cells, active_flags, head_of};
-ghost use Rattle.dealing.specs.Prepared.{cell_count, cells_in, cells_of, move_count};
+ghost use Rattle.dealing.specs.Prepared.{cell_count, cells_in, cells_of};
 
 use super::{ActiveCells, Prepared};
-use yard::batch::Step;
+use yard::batch::{Move, Step};
 use yard::kind::Kind;
 
 /// Prepare: a cell is active if some step writes it.
@@ -21,32 +21,30 @@ pub(crate) fn prepare<K: Kind>(steps: &[Step], active: &mut [bool])
     }
 }
 
-impl<'a, 'b, 'c> Prepared<'a, 'b, 'c> {
+impl<'a> Prepared<'a> {
     /// The active cells that a move names.
-    pub(crate) fn cells_of(self, place: usize) -> ActiveCells<'a, 'b>
-        requires { place < move_count self }
-        ensures cells { cells_in result ≡ cells_of self.entry place }
+    pub(crate) fn cells_of(self, found: Move) -> ActiveCells<'a>
+        ensures cells { cells_in result ≡ cells_of self.entry found }
         ensures count { cell_count result ≡ length self.entry.active.now }
     {
-        let found = self.moves[place];
-        let first = usize::from(found.first);
-        let end = first + usize::from(found.count);
         ActiveCells {
             active: self.active,
-            steps: &self.steps[first..end],
+            steps: found.steps(self.steps),
         }
     }
 }
 
-impl ActiveCells<'_, '_> {
+impl ActiveCells<'_> {
     /// The cell that a step names, if it is active.
     pub(crate) fn counted(self, step: Step) -> Option<usize>
-        requires { step.cell < cell_count self }
         ensures counted { result ≡ head_of (active_cells self.entry.active.now (step ∷ [])) }
         ensures within { IfSome result (λ cell. cell < cell_count self.entry) }
     {
         let cell = usize::from(step.cell);
-        if self.active[cell] { Some(cell) } else { None }
+        match self.active.get(cell) {
+            Some(true) => Some(cell),
+            _ => None,
+        }
     }
 
     /// The first of them.
@@ -54,10 +52,10 @@ impl ActiveCells<'_, '_> {
         ensures first { result ≡ head_of (cells_in self.entry) }
         ensures within { IfSome result (λ cell. cell < cell_count self.entry) }
     {
+        // a loop: what `find_map` answers is not tied to a list
         for step in self.steps {
-            match self.counted(*step) {
-                Some(cell) => return Some(cell),
-                None => {}
+            if let Some(cell) = self.counted(*step) {
+                return Some(cell);
             }
         }
         None

@@ -1,7 +1,6 @@
 use Rattle.std.proofs.Common.{◌≡◌, ℕ, ◌<◌, List, length, get_or, sym, ◌∙◌, inl, arith}
 use Rattle.std.specs.List.{range_with_len}
 use Rattle.std.proofs.lemmas.List.FromFn.{length-range_with_len, get_or-range_with_len}
-use Rattle.std.proofs.lemmas.List.Edits.{fill_by_more}
 use Rattle.std.proofs.lemmas.List.{same_lists}
 use Rattle.clusters.specs.Roots.{roots_of}
 use Rattle.clusters.proofs.Climbing.{root_stays, up_stops}
@@ -15,9 +14,6 @@ own_roots n ps len own =
     (λ k d h.
     let l : k < n = omega (arith, length-roots_of ps) in
     get_or-roots_of ps k d (omega arith) ∙ root_stays ps k (up_stops ps k (inl (omega (arith, own k l)))) ∙ sym (get_or-range_with_len 0 n k d l ∙ omega arith))
-
-pub loop-cell-preserved : goal.loop-cell-preserved
-loop-cell-preserved c = fill_by_more (λ k. k) c.loop-cell.parents c.loop-cell.cell 0 (omega arith) c.loop-cell.invariant
 
 pub returns : goal.returns
 returns c = own_roots _ c.loop-cell.parents c.loop-cell.auto.parents (λ k h. c.loop-cell.invariant k (omega arith))
