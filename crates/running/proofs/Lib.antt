@@ -2,5 +2,4 @@ pub mod Rows
 pub mod Counted
 pub mod Stepped
 pub mod Admitted
-pub mod Turned
 pub mod Heard

@@ -1,24 +1,21 @@
 -- Rows of lanes: what making a lane from one finds out, and whether a queue has a step left.
-use Rattle.std.proofs.Common.{◌≡◌, ℕ, zero, suc, ◌-◌, ◌<◌, Bool, true, false, cond, ◌||◌, ltb, leb, List, get_or, is_some, Some, None, Option, sym, refl, ap, ◌∙◌, arith}
-use Rattle.std.specs.Option.{option_map}
+use Rattle.std.proofs.Common.{◌≡◌, ℕ, zero, suc, ◌+◌, ◌-◌, ◌<◌, ◌≤◌, false, ◌||◌, List, [], ◌∷◌, length, get_or, take, refl, ap, ◌∙◌, arith}
+use Rattle.std.proofs.Math.Bool.{or_comm, or-false}
+use Rattle.std.proofs.Math.Seq.{take-suc}
+use Rattle.std.proofs.lemmas.List.Folds.{list_any-append}
+use Rattle.std.specs.List.{list_any, slice_range}
 use Rattle.yard.specs.declared.run.LaneRow.{LaneRow}
 use Rattle.books.specs.Scripts.{no_row}
 use Rattle.books.specs.Calls.{busy}
-use Rattle.running.specs.declared.lane.Lane.{Lane}
-use Rattle.running.specs.Lanes.{row_in, checked_row}
+use Rattle.running.specs.Lanes.{has_step}
 
-lane_there : (l : Option Lane) → is_some l ≡ is_some (option_map row_in l)
-lane_there None = refl
-lane_there (Some l) = refl
+-- whether one of the first queues has a step left, front to back
+rows_busy : (x : LaneRow) (xs : List LaneRow) (q : ℕ) → q ≤ length xs → list_any has_step (take q xs) ≡ busy (x ∷ xs) q
+rows_busy x xs zero h = refl
+rows_busy x xs (suc q) h =
+    rw (take-suc xs q no_row (omega arith), list_any-append, rows_busy x xs q (omega arith))
+    (or_comm (busy (x ∷ xs) q) (has_step (get_or xs q no_row) || false) ∙ ap (λ b. b || busy (x ∷ xs) q) (or-false (has_step (get_or xs q no_row))))
 
-row_there : (b : Bool) (row : LaneRow) → is_some (cond b (Some row) None) ≡ b
-row_there true row = refl
-row_there false row = refl
-
-pub row_checked : (l : Option Lane) (row : LaneRow) (t : Bool) → option_map row_in l ≡ checked_row row → is_some l ≡ t → leb row.next row.end ≡ t
-row_checked l row t e f = sym (row_there (leb row.next row.end) row) ∙ sym (ap is_some e) ∙ sym (lane_there l) ∙ f
-
--- one queue less
-pub busy_less : (lanes : List LaneRow) (q : ℕ) (t : Bool) → 0 < q → t ≡ ltb (get_or lanes q no_row).next (get_or lanes q no_row).end → busy lanes q ≡ (t || busy lanes (q - 1))
-busy_less lanes zero t h e = absurd (omega arith)
-busy_less lanes (suc q) t h e = let f : q ≡ suc q - 1 = omega arith in ap (λ b. b || busy lanes q) (sym e) ∙ ap (λ n. t || busy lanes n) f
+pub queues_busy : (lanes : List LaneRow) (q : ℕ) → q < length lanes → list_any has_step (slice_range lanes 1 (q + 1)) ≡ busy lanes q
+queues_busy [] q h = absurd (omega arith)
+queues_busy (x ∷ xs) q h = let e : q + 1 - 1 ≡ q = omega arith in ap (λ n. list_any has_step (take n xs)) e ∙ rows_busy x xs q (omega arith)

@@ -11,11 +11,19 @@ use Rattle.running.specs.declared.lane.Lane.{Lane}
 
 -- the row that a lane was made from
 abbrev pub row_in : Lane → LaneRow
-row_in l = record { first = l.first; next = l.next; end = l.end; taken = l.taken }
+row_in l = l.row
 
 -- a row, unless it is past its end
 abbrev pub checked_row : LaneRow → Option LaneRow
 checked_row row = cond (nat_le row.next row.end) (Some row) None
+
+-- the row is not past its end
+abbrev pub is_within : LaneRow → Bool
+is_within row = nat_le row.next row.end
+
+-- the row has a step left
+abbrev pub has_step : LaneRow → Bool
+has_step row = nat_lt row.next row.end
 
 -- the lists are those of a run with these numbers, and the row is a part of the line-up
 abbrev pub row_fits : Numbers → List ℕ → List LaneRow → LaneRow → Bool

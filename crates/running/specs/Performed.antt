@@ -20,7 +20,7 @@ abbrev pub OpenedFor : {V : Type 0} → Rules V → Script → List V → List O
 OpenedFor R s values outcomes lanes = AsOpened R (listed s.batch) (length values) (numbers_in s.opening) s.line_up.now lanes outcomes
 
 -- the lists and the answers before the calls and after them
-module _ {V : Type 0} (R : Rules V) (S : ScriptLists) (calls : List Call) (start : State V) (before : List (Answer V)) (final : State V) (after : List (Answer V)) where
+module _ {V : Type 0} (R : Rules V) (S : ScriptLists) (calls : List Call) (start : State V) (before : List (Result (Answer V) Refusal)) (final : State V) (after : List (Result (Answer V) Refusal)) where
   -- all calls were worked, with an answer for each; the answers past those are as they were
   pub record Worked : Type 0 where
     pub enough : length calls ≤ length before

@@ -1,10 +1,9 @@
 -- The step that is due in a lane: what it stands on, and what it leaves.
-use Rattle.std.specs.Prelude.{◌<◌, ◌≤◌, List, map, length}
+use Rattle.std.specs.Prelude.{◌<◌, ◌≤◌, length, Ok}
 use Rattle.yard.specs.declared.run.LaneRow.{LaneRow}
-use Rattle.yard.specs.declared.run.Outcome.{Outcome}
 use Rattle.yard.specs.declared.run.Answer.{Answer}
 use Rattle.yard.specs.Rules.{Rules}
-use Rattle.yard.specs.Runs.{end_of, reply_of}
+use Rattle.yard.specs.Runs.{reply_of}
 use Rattle.books.specs.Scripts.{Script, State, move_at, due, due_place}
 use Rattle.books.specs.Calls.{Turn}
 use Rattle.running.specs.Working.{Workable}
@@ -20,6 +19,6 @@ pub record Due {V : Type 0} (R : Rules V) (S : Script) (st : State V) (row : Lan
   pub few : (move_at S (due S row)).count ≤ 1024
   pub step : Workable R S.steps st.values st.saved (due_place S row)
 
--- what the code leaves and answers, as a turn
-abbrev pub turn_of : {V : Type 0} → List V → List V → List Outcome → LaneRow × Answer V → Turn V
-turn_of values saved outcomes r = record { values = values; saved = saved; ends = map end_of outcomes; row = r.0; reply = reply_of r.1 }
+-- the state that the code leaves, the row and the answer that it gives, as a turn
+abbrev pub turn_of : {V : Type 0} → State V → LaneRow × Answer V → Turn V
+turn_of st r = record { values = st.values; saved = st.saved; ends = st.ends; row = r.0; reply = reply_of (Ok r.1) }

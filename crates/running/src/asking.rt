@@ -36,13 +36,11 @@ pub fn lane_moves<'a>(
     if queues >= lanes.len() || moves > line_up.len() {
         return Err(Refusal::NotThisRun);
     }
-    let Some(found) = Lane::of_row(lanes[lane]) else {
+    let Some(Lane { row }) = Lane::of_row(lanes[lane]) else {
         return Err(Refusal::NotThisRun);
     };
-    let first = usize::from(found.first);
-    let end = usize::from(found.end);
-    if first > end || end > moves {
+    if row.first > row.end || usize::from(row.end) > moves {
         return Err(Refusal::NotThisRun);
     }
-    Ok(&line_up[first..end])
+    Ok(row.places(line_up))
 }

@@ -4,12 +4,11 @@ ghost use Rattle.std.specs.Prelude.{◌≤◌};
 
 pub mod rows;
 
+use yard::run::LaneRow;
+
 /// A lane whose next place is not past its end.
 #[derive(Clone, Copy, Debug, PartialEq)]
 pub struct Lane {
-    pub first: u16,
-    pub next: u16,
-    pub end: u16,
-    pub taken: u16,
-    ghost within: { next ≤ end },
+    pub row: LaneRow,
+    ghost within: { row.next ≤ row.end },
 }

@@ -6,6 +6,7 @@ mod admitting;
 pub mod asking;
 pub mod lane;
 pub mod performing;
+pub mod run;
 pub mod script;
 pub mod stepping;
 pub mod tallying;

@@ -1,81 +1,71 @@
 //! Any list of calls on a run, one answer a call, and the law of runs.
 
-ghost use Rattle.std.specs.Prelude.{◌≡◌, ◌<◌, true, map, length, is_ok, slice_set};
+ghost use Rattle.std.specs.Prelude.{◌≡◌, true, map, is_ok};
+ghost use Rattle.yard.specs.declared.run.Call.TheVariants.{Tally};
 ghost use Rattle.yard.specs.Runs.{reply_of};
 ghost use Rattle.books.specs.Calls.{after, reply};
 ghost use Rattle.books.specs.Law.{Law};
 ghost use Rattle.running.specs.Performed.{OpenedFor, Performed};
-ghost use Rattle.running.specs.Run.{script_of, state_of};
+ghost use Rattle.running.specs.Run.{script_of, state_in, Keeps};
 
 use crate::asking::look;
-use crate::script::Script;
-use crate::stepping::step;
+use crate::run::Run;
 use crate::tallying::tally;
 use yard::board::Board;
 use yard::kind::Kind;
 use yard::refusal::Refusal;
-use yard::run::{Answer, Call, LaneRow, Outcome};
+use yard::run::{Answer, Call};
 
-/// Works the calls in their order and puts an answer for each at the front of `answers`. On lists that open filled, the law of runs holds of them.
-pub fn perform<K: Kind, B: Board<Value = K::Value>>(
-    script: Script,
-    board: &mut B,
-    saved: &mut [K::Value],
-    lanes: &mut [LaneRow],
-    outcomes: &mut [Outcome],
-    calls: &[Call],
-    answers: &mut [Answer<K::Value>],
-) -> Result<(), Refusal>
-    ensures performed { Performed K.Kind.rules (script_of script.entry) calls.now
-        (state_of (B.Board.values board.old) saved.old outcomes.old lanes.old) answers.old
-        (state_of (B.Board.values board.new) saved.new outcomes.new lanes.new) answers.new result }
-    ensures around { B.Board.around board.new ≡ B.Board.around board.old }
-    ensures law { is_ok result ≡ true → OpenedFor K.Kind.rules script.entry (B.Board.values board.old) outcomes.old lanes.old →
-        Law K.Kind.rules (script_of script.entry) (state_of (B.Board.values board.old) saved.old outcomes.old lanes.old)
-        calls.now (map reply_of answers.new) (state_of (B.Board.values board.new) saved.new outcomes.new lanes.new) }
-{
-    if answers.len() < calls.len() {
-        return Err(Refusal::ResultTooShort);
+impl<K: Kind, B: Board<Value = K::Value>> Run<'_, '_, '_, K, B> {
+    /// Works the calls in their order and puts an answer for each at the front of `answers`. On lists that open filled, the law of runs holds of them.
+    pub fn perform(
+        &mut self,
+        calls: &[Call],
+        answers: &mut [Result<Answer<K::Value>, Refusal>],
+    ) -> Result<(), Refusal>
+        ensures performed { Performed K.Kind.rules (script_of self.old.script) calls.now
+            (state_in B.Board.values self.old) answers.old (state_in B.Board.values self.new) answers.new result }
+        ensures keeps { Keeps B.Board.around self.old self.new }
+        ensures law { is_ok result ≡ true →
+            OpenedFor K.Kind.rules self.old.script (B.Board.values self.old.board.now) self.old.outcomes.now self.old.lanes.now →
+            Law K.Kind.rules (script_of self.old.script) (state_in B.Board.values self.old)
+            calls.now (map reply_of answers.new) (state_in B.Board.values self.new) }
+    {
+        if answers.len() < calls.len() {
+            return Err(Refusal::ResultTooShort);
+        }
+        for (i, call) in calls.iter().enumerate() {
+            // by place: after `zip` with `iter_mut`, a proof does not know what was written
+            answers[i] = self.serve(*call);
+        }
+        Ok(())
     }
-    for (i, call) in calls.iter().enumerate() {
-        let answer = serve::<K, B>(script, board, saved, lanes, outcomes, *call);
-        put(answers, i, answer);
-    }
-    Ok(())
-}
 
-// Works one call.
-fn serve<K: Kind, B: Board<Value = K::Value>>(
-    script: Script,
-    board: &mut B,
-    saved: &mut [K::Value],
-    lanes: &mut [LaneRow],
-    outcomes: &mut [Outcome],
-    call: Call,
-) -> Answer<K::Value>
-    ensures after { state_of (B.Board.values board.new) saved.new outcomes.new lanes.new
-        ≡ after K.Kind.rules (script_of script.entry)
-        (state_of (B.Board.values board.old) saved.old outcomes.old lanes.old) call }
-    ensures reply { reply_of result ≡ reply K.Kind.rules (script_of script.entry)
-        (state_of (B.Board.values board.old) saved.old outcomes.old lanes.old) call }
-    ensures around { B.Board.around board.new ≡ B.Board.around board.old }
-{
-    match call {
-        Call::Step(lane) => step::<K, B>(script, board, saved, lanes, outcomes, lane),
-        Call::Look(cell) => match look::<B>(board, cell) {
-            Ok(value) => Answer::Held(value),
-            Err(refusal) => Answer::Refused(refusal),
-        },
-        Call::Tally => match tally(script.opening, script.batch.moves, lanes, outcomes) {
-            Ok(counted) => Answer::Counted(counted),
-            Err(refusal) => Answer::Refused(refusal),
-        },
+    // Works one call.
+    fn serve(&mut self, call: Call) -> Result<Answer<K::Value>, Refusal>
+        ensures after { state_in B.Board.values self.new
+            ≡ after K.Kind.rules (script_of self.old.script) (state_in B.Board.values self.old) call }
+        ensures reply { reply_of result ≡ reply K.Kind.rules (script_of self.old.script) (state_in B.Board.values self.old) call }
+        ensures keeps { Keeps B.Board.around self.old self.new }
+    {
+        match call {
+            Call::Step(lane) => self.step(lane),
+            Call::Look(cell) => Ok(Answer::Held(look::<B>(self.board, cell)?)),
+            Call::Tally => self.tally(),
+        }
     }
-}
 
-fn put<V: Copy>(answers: &mut [Answer<V>], place: usize, answer: Answer<V>)
-    requires { place < length answers.old }
-    ensures { answers.new ≡ slice_set answers.old place answer }
-{
-    answers[place] = answer;
+    // Tells how far the run is.
+    fn tally(&self) -> Result<Answer<K::Value>, Refusal>
+        ensures { reply_of result ≡ reply K.Kind.rules (script_of self.now.script) (state_in B.Board.values self.now) Tally }
+    {
+        let script = self.script;
+        let counted = tally(
+            script.opening,
+            script.batch.moves,
+            self.lanes,
+            self.outcomes,
+        )?;
+        Ok(Answer::Counted(counted))
+    }
 }

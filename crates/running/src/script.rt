@@ -5,8 +5,8 @@ use yard::batch::Batch;
 
 /// A batch with its opening and its line-up. All of it is only read.
 #[derive(Clone, Copy)]
-pub struct Script<'a, 'b> {
+pub struct Script<'a> {
     pub opening: Opening,
     pub batch: Batch<'a>,
-    pub line_up: &'b [u16],
+    pub line_up: &'a [u16],
 }

@@ -1,10 +1,12 @@
 //! How far a run is, from the rows of its lanes and the outcomes of its moves.
 
 ghost use Rattle.std.specs.Prelude.{◌≡◌, ◌*◌, ◌≤◌, map, length};
+ghost use Rattle.std.specs.List.{list_all};
 ghost use Rattle.yard.specs.Runs.{end_of};
 ghost use Rattle.yard.specs.Told.{told};
 ghost use Rattle.dealing.specs.Openings.{numbers_in};
-ghost use Rattle.books.specs.Tallies.{accepted_of, accepted_in, done_in, failed_in, taken_in, tally_of, rows_within, tally_fits, tallied};
+ghost use Rattle.books.specs.Tallies.{accepted_of, accepted_in, done_in, failed_in, taken_in, tally_of, tally_fits, tallied};
+ghost use Rattle.running.specs.Lanes.{is_within};
 
 use crate::lane::Lane;
 use dealing::opening::Opening;
@@ -40,20 +42,14 @@ fn fits(opening: Opening, moves: &[Move], lanes: &[LaneRow], outcomes: &[Outcome
     count <= moves.len()
         && queues < lanes.len()
         && count <= outcomes.len()
-        && all_within(lanes, queues + 1)
+        && all_within(&lanes[..=queues])
 }
 
-// Whether none of the first rows is past its end.
-fn all_within(lanes: &[LaneRow], count: usize) -> bool
-    requires { count ≤ length lanes.now }
-    ensures { result ≡ rows_within lanes.now count }
+// Whether none of the rows is past its end.
+fn all_within(rows: &[LaneRow]) -> bool
+    ensures { result ≡ list_all is_within rows.now }
 {
-    for lane in (0..count).rev() {
-        if Lane::of_row(lanes[lane]).is_none() {
-            return false;
-        }
-    }
-    true
+    rows.iter().all(|row| Lane::of_row(*row).is_some())
 }
 
 // The steps taken of the moves that the first lanes have under way.
@@ -64,8 +60,8 @@ fn under_way(lanes: &[LaneRow], count: usize) -> usize
     ensures bound { result ≤ 65535 * count }
 {
     let mut taken = 0;
-    for lane in 0..count {
-        taken += lanes[lane].taken as usize;
+    for row in &lanes[..count] {
+        taken += usize::from(row.taken);
     }
     taken
 }
@@ -82,9 +78,9 @@ fn ended(moves: &[Move], outcomes: &[Outcome], count: usize) -> Tally
     let mut accepted = 0;
     let mut done = 0;
     let mut failed = 0;
-    for place in 0..count {
-        accepted += usize::from(accepted_steps(outcomes[place], moves[place].count));
-        match outcomes[place] {
+    for (found, outcome) in moves[..count].iter().zip(&outcomes[..count]) {
+        accepted += usize::from(accepted_steps(*outcome, found.count));
+        match outcome {
             Outcome::NotEnded => {}
             Outcome::Done => done += 1,
             Outcome::Failed(_, _) => failed += 1,

@@ -58,10 +58,11 @@ fn set_back<K: Kind, B: Board<Value = K::Value>>(
         ≡ set_back K.Kind.rules steps.now saved.now first count (B.Board.values board.old) }
     ensures around { B.Board.around board.new ≡ B.Board.around board.old }
 {
-    for k in (0..count).rev() {
-        let step = steps[first + k];
+    let end = first + count;
+    let steps = steps[first..end].iter().rev();
+    for (step, old) in steps.zip(saved[first..end].iter().rev()) {
         if K::writes(step.order) {
-            let _ = board.set(usize::from(step.cell), saved[first + k]);
+            let _ = board.set(usize::from(step.cell), *old);
         }
     }
 }

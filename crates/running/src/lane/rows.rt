@@ -14,52 +14,44 @@ impl Lane {
         ensures { option_map row_in result ≡ checked_row row }
     {
         if row.next <= row.end {
-            Some(Lane {
-                first: row.first,
-                next: row.next,
-                end: row.end,
-                taken: row.taken,
-            })
+            Some(Lane { row })
         } else {
             None
         }
     }
 
     pub fn is_at_end(self) -> bool
-        ensures { result ≡ (self.next == self.end) }
+        ensures { result ≡ (self.row.next == self.row.end) }
     {
-        self.next == self.end
+        self.row.next == self.row.end
     }
 
     pub fn has_step_left(self) -> bool
-        ensures { result ≡ nat_lt self.next self.end }
+        ensures { result ≡ nat_lt self.row.next self.row.end }
     {
-        self.next < self.end
+        self.row.next < self.row.end
     }
 
     /// The row after a step that leaves its move under way.
     pub(crate) fn after_step(self) -> LaneRow
-        requires { self.taken < 65535 }
+        requires { self.row.taken < 65535 }
         ensures { result ≡ onward (row_in self) }
     {
         LaneRow {
-            first: self.first,
-            next: self.next,
-            end: self.end,
-            taken: self.taken + 1,
+            taken: self.row.taken + 1,
+            ..self.row
         }
     }
 
     /// The row after the end of a move.
     pub(crate) fn after_move(self) -> LaneRow
-        requires { self.next < self.end }
+        requires { self.row.next < self.row.end }
         ensures { result ≡ over (row_in self) }
     {
         LaneRow {
-            first: self.first,
-            next: self.next + 1,
-            end: self.end,
+            next: self.row.next + 1,
             taken: 0,
+            ..self.row
         }
     }
 }

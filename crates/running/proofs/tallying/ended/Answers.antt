@@ -1,25 +1,27 @@
-use Rattle.std.proofs.Common.{arith}
-use Rattle.yard.specs.declared.run.Outcome.TheVariants.{NotEnded, Done, Failed}
-use Rattle.running.proofs.Counted.{accepted_more, done_more, failed_more}
+use Rattle.std.proofs.Common.{length, take, rules, arith}
+use Rattle.std.proofs.lemmas.List.{length_push}
+use Rattle.std.proofs.lemmas.Slice.Zip.{zip_turn}
+use Rattle.running.proofs.Counted.{one_more}
 use Rattle.running.proofs.tallying.ended.Goals as goal
-use Rattle.running.proofs.tallying.ended.Goals.{in-NotEnded, in-Done, in-Failed}
 
-pub loop-place-preserved : goal.loop-place-preserved
-loop-place-preserved c =
-    let os = c.args.outcomes.now in
-    let m = c.loop-place.place in
-    let a = accepted_more os m (omega arith) c.args.moves.now in
-    let done = done_more os m (omega arith) in
-    let failed = failed_more os m (omega arith) in
-    elim c.match-outcomes-place.branch [
-      | in-NotEnded w ↦
-          let d = done NotEnded w.in-NotEnded.is in
-          let f = failed NotEnded w.in-NotEnded.is in (omega arith, omega arith, omega arith, omega arith, omega arith)
-      | in-Done w ↦
-          let d = done Done w.in-Done.is in
-          let f = failed Done w.in-Done.is in (omega arith, omega arith, omega arith, omega arith, omega arith)
-      | in-Failed w ↦
-          let o = Failed w.in-Failed.field-0 w.in-Failed.field-1 in
-          let d = done o w.in-Failed.is in
-          let f = failed o w.in-Failed.is in (omega arith, omega arith, omega arith, omega arith, omega arith)
-    ]
+pub loop-found-preserved-in-Done : goal.loop-found-preserved-in-Done
+loop-found-preserved-in-Done c =
+    let n = c.args.count in
+    let moves = c.args.moves.now in
+    let outcomes = c.args.outcomes.now in
+    let t = zip_turn (take n moves) (take n outcomes) c.loop-found.yielded c.into_iter-found-iterator.result c.loop-found.found-iterator c.next.new.self c.next.result
+    (search rules) (search rules) c.loop-found.yielded_by (c.in-Some.found, c.in-Some.outcome) c.in-Some.is c.next.ensures.steps in
+    let more = rw c.in-Done.is at (one_more moves outcomes n (length c.loop-found.yielded) c.in-Some.found.now c.in-Some.outcome.now c.requires.moves c.requires.outcomes t) in
+    let accepted = rw c.in-Done.is at c.accepted_steps.ensures in
+    rw (length_push c.loop-found.yielded (c.in-Some.found, c.in-Some.outcome)) (omega arith, omega arith, omega arith, omega arith, omega arith)
+
+pub loop-found-preserved : goal.loop-found-preserved
+loop-found-preserved c =
+    let n = c.args.count in
+    let moves = c.args.moves.now in
+    let outcomes = c.args.outcomes.now in
+    let t = zip_turn (take n moves) (take n outcomes) c.loop-found.yielded c.into_iter-found-iterator.result c.loop-found.found-iterator c.next.new.self c.next.result
+    (search rules) (search rules) c.loop-found.yielded_by (c.in-Some.found, c.in-Some.outcome) c.in-Some.is c.next.ensures.steps in
+    let more = rw c.in-Failed.is at (one_more moves outcomes n (length c.loop-found.yielded) c.in-Some.found.now c.in-Some.outcome.now c.requires.moves c.requires.outcomes t) in
+    let accepted = rw c.in-Failed.is at c.accepted_steps.ensures in
+    rw (length_push c.loop-found.yielded (c.in-Some.found, c.in-Some.outcome)) (omega arith, omega arith, omega arith, omega arith, omega arith)
