@@ -14,6 +14,11 @@ pub up_past : (ps : List ℕ) (x : ℕ) → length ps ≤ x → up_of ps x ≡ x
 unfolding up_of
 up_past ps x h = rw (get_or_past ps x 0 h) (grind (arith, nat_tests))
 
+-- a parent that is not a higher cell of the list does not count
+pub up_stops : (ps : List ℕ) (x : ℕ) → (get_or ps x 0 ≤ x) ⊎ (length ps ≤ get_or ps x 0) → up_of ps x ≡ x
+unfolding up_of
+up_stops ps x h = grind (arith, nat_tests)
+
 pub up_goes : (ps : List ℕ) (x : ℕ) → x < get_or ps x 0 → get_or ps x 0 < length ps → up_of ps x ≡ get_or ps x 0
 unfolding up_of
 up_goes ps x h k = grind (arith, nat_tests)
