@@ -111,6 +111,5 @@ dealable R b room count a =
       moves = shape.moves;
       choices = shape.choices;
       within = known_within R b.cells b.steps a.orders;
-      inside = λ k h. end_inside 0 b.moves (length b.steps) k shape.laid_out h;
       chosen = below_all (length b.moves) b.choices a.chosen;
     }

@@ -1,7 +1,7 @@
 -- What the stages ask of a batch and of the lists that they work with.
 use Rattle.std.specs.Prelude.{◌≡◌, ℕ, ◌≤◌, List, length}
 use Rattle.yard.specs.Batches.{Listed}
-use Rattle.dealing.specs.Active.{Within, Inside}
+use Rattle.dealing.specs.Active.{Within}
 use Rattle.dealing.specs.Examining.{AllBelow}
 use Rattle.dealing.specs.Opening.{Lists}
 
@@ -11,7 +11,6 @@ pub record Dealable (b : Listed) : Type 0 where
   pub moves : length b.moves ≤ 256
   pub choices : length b.choices ≤ 64
   pub within : Within b.cells b.steps
-  pub inside : Inside b.steps b.moves
   pub chosen : AllBelow (length b.moves) b.choices
 
 -- working lists for so many cells

@@ -1,22 +1,21 @@
--- Sums over the first moves and lanes, one more at a time, and the tests of a tally.
-use Rattle.std.proofs.Common.{◌≡◌, ℕ, zero, suc, ◌+◌, ◌<◌, ◌≤◌, Bool, true, ◌&&◌, List, map, length, get_or, take, refl, ap, ◌∙◌, add-one, arith}
+-- Sums over the first moves, one more at a time, and rows that are not past their ends.
+use Rattle.std.proofs.Common.{◌≡◌, ℕ, zero, suc, ◌+◌, ◌<◌, ◌≤◌, true, ◌&&◌, List, map, length, get_or, take, refl, ap, ◌∙◌, add-one, arith}
 use Rattle.std.proofs.Math.Bool.{and_comm, and-true}
 use Rattle.std.proofs.Math.Seq.{take-suc}
 use Rattle.std.proofs.lemmas.List.Folds.{list_all-append}
 use Rattle.std.specs.List.{list_all}
-use Rattle.std.proofs.lemmas.List.{length-map, get_or-map, get_or-take, length-take-le}
-use Rattle.std.proofs.lemmas.Bool.{le-leb, lt-ltb}
+use Rattle.std.proofs.lemmas.List.{get_or-map, get_or-take, length-take-le}
 use Rattle.yard.specs.declared.batch.Move.{Move}
 use Rattle.yard.specs.declared.run.LaneRow.{LaneRow}
 use Rattle.yard.specs.declared.run.Outcome.{Outcome}
 use Rattle.yard.specs.declared.run.Outcome.TheVariants.{NotEnded}
-use Rattle.yard.specs.Runs.{Numbers, End, not_ended, end_of}
+use Rattle.yard.specs.Runs.{End, not_ended, end_of}
 use Rattle.dealing.specs.Active.{no_move}
 use Rattle.books.specs.Scripts.{no_row}
-use Rattle.books.specs.Tallies.{sum_to, accepted_of, one_done, one_failed, accepted_in, done_in, failed_in, rows_within, tally_fits}
+use Rattle.books.specs.Tallies.{sum_to, accepted_of, one_done, one_failed, accepted_in, done_in, failed_in, rows_within}
 use Rattle.running.specs.Lanes.{is_within}
 
-pub sum_more : (n : ℕ) (f : ℕ → ℕ) → sum_to (n + 1) f ≡ sum_to n f + f n
+sum_more : (n : ℕ) (f : ℕ → ℕ) → sum_to (n + 1) f ≡ sum_to n f + f n
 sum_more n f = ap (λ k. sum_to k f) (add-one n)
 
 -- one move more
@@ -56,9 +55,3 @@ all_within lanes zero h = refl
 all_within lanes (suc n) h =
     rw (take-suc lanes n no_row (omega arith), list_all-append, all_within lanes n (omega arith))
     (and_comm (rows_within lanes n) (is_within (get_or lanes n no_row) && true) ∙ ap (λ b. b && rows_within lanes n) (and-true (is_within (get_or lanes n no_row))))
-
--- what a tally asks for, when no list is too short
-pub tally_within : (n : Numbers) (moves : List Move) (lanes : List LaneRow) (outcomes : List Outcome) (t : Bool) → n.moves ≤ length moves → n.queues < length lanes →
-    n.moves ≤ length outcomes → t ≡ rows_within lanes (n.queues + 1) → t ≡ tally_fits n moves lanes (map end_of outcomes)
-tally_within n moves lanes outcomes t a b d e =
-    rw (le-leb n.moves (length moves) a, lt-ltb n.queues (length lanes) b, length-map outcomes end_of, le-leb n.moves (length outcomes) d) (e ∙ ap (rows_within lanes) (add-one n.queues))

@@ -1,4 +1,4 @@
--- Rows of lanes: what making a lane from one finds out, and whether a queue has a step left.
+-- Whether a queue has a step left, front to back.
 use Rattle.std.proofs.Common.{◌≡◌, ℕ, zero, suc, ◌+◌, ◌-◌, ◌<◌, ◌≤◌, false, ◌||◌, List, [], ◌∷◌, length, get_or, take, refl, ap, ◌∙◌, arith}
 use Rattle.std.proofs.Math.Bool.{or_comm, or-false}
 use Rattle.std.proofs.Math.Seq.{take-suc}

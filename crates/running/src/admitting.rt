@@ -107,6 +107,7 @@ impl Script<'_> {
 }
 
 // Whether one of the queues has a step left.
+#[tactic(auto, using(crate::proofs::Rows::queues_busy))]
 fn queues_busy(lanes: &[LaneRow], queues: usize) -> bool
     requires { queues < length lanes.now }
     ensures { result ≡ busy lanes.now queues }
