@@ -1,6 +1,5 @@
--- The checks of open: one turn of each loop.
-use Rattle.std.proofs.Common.{◌≡◌, ℕ, zero, suc, ◌+◌, ◌<◌, ◌≤◌, Bool, true, false, cond, ◌&&◌, eqb, ltb, leb, List, [], ◌∷◌, length, get_or, drop, Some, None, Option, sym, refl, ap, ◌∙◌, arith}
-use Rattle.std.proofs.lemmas.List.{drop_more, drop_all}
+-- What the checks of open say.
+use Rattle.std.proofs.Common.{◌≡◌, ℕ, zero, suc, ◌+◌, ◌<◌, ◌≤◌, Bool, true, false, cond, ◌&&◌, eqb, ltb, leb, List, [], ◌∷◌, length, get_or, Some, None, Option, refl, arith}
 use Rattle.std.proofs.lemmas.Bool.{eqb-true, leb-true, ltb-true}
 use Rattle.yard.specs.declared.batch.Step.{Step}
 use Rattle.yard.specs.declared.batch.Move.{Move}
@@ -12,22 +11,6 @@ use Rattle.dealing.specs.Dealable.{Dealable}
 use Rattle.dealing.specs.Examining.{AllBelow}
 use Rattle.dealing.specs.Opening.{begins_at, end_to_end, shaped, in_range, known, all_known, all_below, refusal}
 use Rattle.dealing.proofs.NoConflict.{and_left, and_right}
-
--- a test of a list that is `one`, the test of its first entry, and `rest`, that of the others; `all` is the test of the whole list
-module _ {A : Type 0} (test : List A → Bool) (one rest all : Bool) (xs : List A) (i : ℕ) (d : A) (hi : i < length xs)
-    (more : test (get_or xs i d ∷ drop (i + 1) xs) ≡ (one && rest)) (inv : test (drop i xs) ≡ all) where
-  test_more : (b : Bool) → one ≡ b → (b && rest) ≡ all
-  test_more b e = ap (λ (t : Bool). t && rest) (sym e) ∙ sym (ap test (drop_more xs i d hi) ∙ more) ∙ inv
-
-  pub test_no : one ≡ false → false ≡ all
-  test_no = test_more false
-
-  pub test_yes : one ≡ true → rest ≡ all
-  test_yes = test_more true
-
--- the test when no entry is left
-pub test_end : {A : Type 0} (test : List A → Bool) (all : Bool) (xs : List A) (i : ℕ) → length xs ≤ i → test (drop i xs) ≡ all → test [] ≡ all
-test_end test all xs i h inv = ap test (sym (drop_all i xs h)) ∙ inv
 
 -- what the tests say
 pub begins : (at : ℕ) (m : Move) → begins_at at m ≡ true → (m.first ≡ at) × (1 ≤ m.count) × (m.count ≤ 8)
