@@ -1,4 +1,4 @@
-pub mod WasRead
 pub mod Called
+pub mod WasRead
 pub mod OpenedCalls
 pub mod Finishing

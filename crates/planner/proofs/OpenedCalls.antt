@@ -1,7 +1,8 @@
 -- The step calls of a run that was opened.
-use Rattle.std.proofs.Common.{◌≡◌, ℕ, zero, suc, ◌+◌, ◌*◌, ◌≤◌, true, List, [], ◌∷◌, ◌++◌, length, get_or, drop, replicate, sym, refl, ap, ◌∙◌, subst, inl, inr, arith}
+use Rattle.std.proofs.Common.{◌≡◌, ℕ, zero, suc, ◌+◌, ◌≤◌, true, List, [], ◌∷◌, ◌++◌, length, get_or, drop, replicate, sym, refl, ap, ◌∙◌, subst, inl, inr, arith}
 use Rattle.std.specs.List.{range_with_len}
 use Rattle.std.proofs.lemmas.List.{get_or_past, length-append, length-drop, length-replicate, length-take-le}
+use Rattle.std.proofs.lemmas.List.Sums.{sum_by-cons, sum_by-append, sum_by-le}
 use Rattle.std.proofs.lemmas.Bool.{cases_lt, and_parts}
 use Rattle.yard.specs.declared.batch.Move.{Move}
 use Rattle.yard.specs.declared.batch.Step.{Step}
@@ -41,7 +42,7 @@ module _ {V : Type 0} (n : Numbers) (moves : List Move) (steps : List Step) (lin
 
   counts_are : (ms : List ℕ) → counts_in moves ms ≡ steps_in (script n moves steps line_up) ms
   counts_are [] = refl
-  counts_are (m ∷ ms) = omega (arith, steps_long m, counts_are ms)
+  counts_are (m ∷ ms) = omega (arith, steps_long m, counts_are ms, sum_by-cons (λ k. (get_or moves k no_move).count) m ms)
 
   lanes_are : (qs : List ℕ) → lane_calls moves line_up lanes qs ≡ calls_through (script n moves steps line_up) (state values saved ends lanes) qs
   lanes_are [] = refl
@@ -51,15 +52,6 @@ module _ {V : Type 0} (n : Numbers) (moves : List Move) (steps : List Step) (lin
 
   pub calls_through_lem : step_calls_of n moves line_up lanes ≡ all_through (script n moves steps line_up) (state values saved ends lanes)
   calls_through_lem = lanes_are (range_with_len 1 n.queues ++ 0 ∷ [])
-
--- a count of steps is the sum over its parts, and at most 8 for each move
-counts-append : (moves : List Move) (xs ys : List ℕ) → counts_in moves (xs ++ ys) ≡ counts_in moves xs + counts_in moves ys
-counts-append moves [] ys = omega arith
-counts-append moves (x ∷ xs) ys = omega (arith, counts-append moves xs ys)
-
-counts_few : (moves : List Move) → ((m : ℕ) → (get_or moves m no_move).count ≤ 8) → (ms : List ℕ) → counts_in moves ms ≤ 8 * length ms
-counts_few moves few [] = omega arith
-counts_few moves few (m ∷ ms) = omega (arith, few m, counts_few moves few ms)
 
 -- moves end to end have at most 8 steps each
 eight : (at : ℕ) (ms : List Move) (end : ℕ) → end_to_end at ms end ≡ true → (k : ℕ) → (get_or ms k no_move).count ≤ 8
@@ -94,7 +86,7 @@ module _ {V : Type 0} (R : Rules V) (b : Listed) (old : Lists) (count : ℕ) (ok
         length-append (replicate k (StepOn a)) (lane_calls b.moves line rows qs),
         length-replicate k (StepOn a),
         ap (counts_in b.moves) (lane_is a h),
-        counts-append b.moves (dealt_moves d a) (lined d.lanes qs),
+        sum_by-append (λ k. (get_or b.moves k no_move).count) (dealt_moves d a) (lined d.lanes qs),
       )
 
   all_counts : (a k : ℕ) → a + k ≤ d.queues + 1 →
@@ -109,7 +101,7 @@ module _ {V : Type 0} (R : Rules V) (b : Listed) (old : Lists) (count : ℕ) (ok
       omega (
         arith,
         all_counts 1 d.queues (omega arith),
-        counts_few b.moves (eight 0 b.moves (length b.steps) shape.laid_out) (line_up_of d),
+        sum_by-le (λ k. (get_or b.moves k no_move).count) 8 (line_up_of d) (λ k x h. eight 0 b.moves (length b.steps) shape.laid_out (get_or (line_up_of d) k x)),
         (stands_once R b.cells b.share b.steps b.moves b.choices).0,
       )
 

@@ -1,6 +1,6 @@
 -- The step calls that work a run through, from its moves, line-up and lanes alone.
-use Rattle.std.specs.Prelude.{◌≡◌, ℕ, ◌+◌, ◌<◌, ◌≤◌, List, [], ◌∷◌, ◌++◌, length, replicate, slice_index_or}
-use Rattle.std.specs.List.{range_with_len}
+use Rattle.std.specs.Prelude.{◌≡◌, ℕ, ◌<◌, ◌≤◌, List, [], ◌∷◌, ◌++◌, length, replicate, slice_index_or}
+use Rattle.std.specs.List.{range_with_len, sum_by}
 use Rattle.yard.specs.declared.batch.Move.{Move}
 use Rattle.yard.specs.declared.run.Call.{Call}
 use Rattle.yard.specs.declared.run.Call.TheVariants.{Step as StepOn}
@@ -17,8 +17,7 @@ use Rattle.books.specs.Through.{all_through}
 
 -- how many steps moves have, by their counts
 abbrev pub counts_in : List Move → List ℕ → ℕ
-counts_in moves [] = 0
-counts_in moves (m ∷ ms) = (slice_index_or moves m no_move).count + counts_in moves ms
+counts_in moves ms = sum_by (λ m. (slice_index_or moves m no_move).count) ms
 
 -- the moves of a lane
 abbrev pub moves_in : List ℕ → List LaneRow → ℕ → List ℕ

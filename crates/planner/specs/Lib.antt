@@ -1,5 +1,5 @@
 pub mod Kind
 pub mod Plan
-pub mod Lending
+pub mod Opening
 pub mod Worked
 pub mod Calling

@@ -13,7 +13,7 @@ use Rattle.dealing.specs.Opening.{Lists, lists, Opened, open_into}
 use Rattle.books.specs.Scripts.{script, state, no_row}
 use Rattle.books.specs.Law.{serial_from}
 use Rattle.sheets.specs.declared.faults.SheetFault.{SheetFault}
-use Rattle.sheets.specs.declared.faults.Slip.{Slip}
+use Rattle.text.specs.declared.slip.Slip.{Slip}
 use Rattle.sheets.specs.Faults.{told}
 use Rattle.sheets.specs.Sheet.{Sheet, sheet_of}
 use Rattle.listings.specs.Laying.{Answered, listed_as, laid_into}

@@ -7,9 +7,10 @@ ghost use Rattle.yard.specs.Told.{told};
 ghost use Rattle.listings.specs.Laying.{listed_as};
 ghost use Rattle.planner.specs.Plan.{planned, plan_into};
 
+use crate::calling::CALLS;
 use crate::kind::YardKind;
 use crate::kind::choosing::kind_of;
-use crate::planning::{CALLS, plan_sheet};
+use crate::planning::{KindLists, plan_sheet};
 use kinds::feeders::{Feeders, Section};
 use kinds::stands::Stands;
 use listings::listing::FULL_LENGTH;
@@ -30,22 +31,17 @@ pub fn plan(sheet: &[u8], listing: &mut [u8]) -> Result<usize, Refusal>
     }
 }
 
-// Plans a sheet of stands with lists of stands.
+// Plans a sheet of stands with lists of stands. Each kind makes its own lists: an array of a type parameter's values has no bound on its size, which a proof needs.
 fn plan_stands(sheet: &[u8], listing: &mut [u8]) -> Result<usize, Refusal>
     ensures { listed_as (told result) listing.new ≡ planned stand_rules stand_rows nat_eq sheet.now listing.old }
 {
-    let mut values = [0u16; CELLS];
-    let mut changes = [None::<u16>; CELLS];
-    let mut saved = [0u16; STEPS];
-    let mut answers = [Answer::<u16>::Passed; CALLS];
-    plan_sheet::<Stands>(
-        sheet,
-        &mut values,
-        &mut changes,
-        &mut saved,
-        &mut answers,
-        listing,
-    )
+    let mut values = [0; CELLS];
+    let mut lists = KindLists {
+        changes: &mut [None; CELLS],
+        saved: &mut [0; STEPS],
+        answers: &mut [Ok(Answer::Passed); CALLS],
+    };
+    plan_sheet::<Stands>(sheet, &mut values, &mut lists, listing)
 }
 
 // Plans a sheet of feeders with lists of sections.
@@ -54,15 +50,10 @@ fn plan_feeders(sheet: &[u8], listing: &mut [u8]) -> Result<usize, Refusal>
 {
     let unnamed = Section { load: 0, limit: 0 };
     let mut values = [unnamed; CELLS];
-    let mut changes = [None::<Section>; CELLS];
-    let mut saved = [unnamed; STEPS];
-    let mut answers = [Answer::<Section>::Passed; CALLS];
-    plan_sheet::<Feeders>(
-        sheet,
-        &mut values,
-        &mut changes,
-        &mut saved,
-        &mut answers,
-        listing,
-    )
+    let mut lists = KindLists {
+        changes: &mut [None; CELLS],
+        saved: &mut [unnamed; STEPS],
+        answers: &mut [Ok(Answer::Passed); CALLS],
+    };
+    plan_sheet::<Feeders>(sheet, &mut values, &mut lists, listing)
 }
