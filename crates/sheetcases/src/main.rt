@@ -13,6 +13,7 @@ use planner::kind::YardKind;
 use planner::kind::choosing::kind_of;
 use sheets::read::read;
 use std::alloc::{AllocError, Global};
+use text::slip::Slip;
 use yard::full::{CELLS, CHOICES, MOVES, STEPS};
 use yard::kind::Kind;
 
@@ -73,21 +74,12 @@ fn tell<K: Kind>(rt: &HostRuntime, short: Option<Short>, sheet: &[u8]) -> anyhow
     if let Some(short) = short {
         short.shorten(&mut desk);
     }
-    match read::<K>(
-        sheet,
-        &mut desk.values,
-        &mut desk.moves,
-        &mut desk.steps,
-        &mut desk.choices,
-    ) {
+    match read::<K>(sheet, &mut desk.lists()) {
         Ok(n) => println!(rt;
             "{} {} {} {} {} {}",
             n.cells, n.share, n.rows, n.moves, n.steps, n.choices
         )?,
-        Err(fault) => {
-            let slip = fault.slip();
-            println!(rt; "N {} {} {}", slip.number, slip.line, slip.word)?;
-        }
+        Err(fault) => println!(rt; "{}", Slip::from(fault))?,
     }
     Ok(())
 }

@@ -11,6 +11,7 @@ use planner::kind::YardKind;
 use planner::kind::choosing::kind_of;
 use sheets::counts::Counts;
 use sheets::read::read;
+use text::slip::Slip;
 use yard::kind::Kind;
 
 fn main(rt: HostRuntime) -> anyhow::Result<()> {
@@ -28,23 +29,14 @@ fn run(rt: &HostRuntime) -> anyhow::Result<()> {
 // Says what the sheet holds, or where it is wrong.
 fn tell<K: Kind>(rt: &HostRuntime, kind: &str, sheet: &[u8]) -> anyhow::Result<()> {
     let mut desk = lay_out::<K>(rt.alloc())?;
-    match read::<K>(
-        sheet,
-        &mut desk.values,
-        &mut desk.moves,
-        &mut desk.steps,
-        &mut desk.choices,
-    ) {
+    match read::<K>(sheet, &mut desk.lists()) {
         Ok(counts) => {
             println!(rt; "{kind}, {} cells, share {}", counts.cells, counts.share)?;
             println!(rt; "{} rows", counts.rows)?;
             tell_moves(rt, counts, &desk)?;
             tell_choices(rt, counts, &desk)?;
         }
-        Err(fault) => {
-            let slip = fault.slip();
-            println!(rt; "N {} {} {}", slip.number, slip.line, slip.word)?;
-        }
+        Err(fault) => println!(rt; "{}", Slip::from(fault))?,
     }
     Ok(())
 }
@@ -54,7 +46,10 @@ fn tell_moves<V: Drop>(rt: &HostRuntime, counts: Counts, desk: &Desk<V>) -> anyh
     for found in desk.moves.iter().take(usize::from(counts.moves)) {
         print!(rt; "  {}:", found.label)?;
         for step in found.steps(&desk.steps) {
-            print!(rt; " {} {} {}", step.order.letter, step.cell, step.order.number)?;
+            print!(rt;
+                " {} {} {}",
+                step.order.letter, step.cell, step.order.number
+            )?;
         }
         println!(rt; "")?;
     }

@@ -1,5 +1,5 @@
 -- What the front of the input still had is all that was read.
-use Rattle.std.proofs.Common.{◌≡◌, ℕ, List, take, vec_items, Some, None, Option, IfSome}
+use Rattle.std.proofs.Common.{◌≡◌, take, vec_items, Some, None, Option, IfSome}
 use Rattle.std.specs.Option.{option_map}
 use Rattle.desk.proofs.sheet.read_sheet.Goals as goal
 

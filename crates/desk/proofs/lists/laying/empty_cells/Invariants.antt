@@ -1,5 +1,5 @@
 use Rattle.std.proofs.Common.{◌≡◌, replicate, vec_items}
 use Rattle.desk.proofs.lists.laying.empty_cells.Given as goal
 
-abbrev pub invariant-loop-i : goal.invariant-loop-i
-invariant-loop-i g l = vec_items l.values ≡ replicate l._i g.K.Kind.rows.unnamed
+abbrev pub invariant-loop : goal.invariant-loop
+invariant-loop g l = vec_items l.values ≡ replicate l.counter g.K.Kind.rows.unnamed
