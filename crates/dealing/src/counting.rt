@@ -15,6 +15,7 @@ pub(crate) fn grow(special: &mut [Special], hit: &[bool])
     ensures sizes { sizes_in special.new ≡ grown hit.now (sizes_in special.old) }
     ensures known { cells_known special.new ≡ cells_known special.old }
 {
+    // by place: after `iter_mut` with a `zip`, a proof does not know what was written
     for (i, here) in hit.iter().enumerate() {
         if *here {
             special[i].size += 1;

@@ -5,10 +5,10 @@ use Rattle.std.specs.Fn.{Shared}
 use Rattle.text.specs.declared.faults.WordFault.TheVariants.{OutOfRange, WrongLetter, NoRows}
 use Rattle.text.specs.declared.faults.LineFault.{LineFault}
 use Rattle.text.specs.declared.faults.LineFault.TheVariants.{NotRising, TooManySteps, Word}
-use Rattle.text.specs.Faults.{and_then, on_err, in_word}
+use Rattle.text.specs.Faults.{and_then, on_err, in_word, passing}
 use Rattle.text.specs.Lines.{line_there}
 use Rattle.text.specs.declared.reader.Reader.{Reader}
-use Rattle.text.specs.Reading.{Here, here, past, past_word, passing, number_at, number_within, number_below, letter_at, letter_is}
+use Rattle.text.specs.Reading.{Here, here, past, past_word, number_at, number_within, number_below, letter_at, letter_is}
 use Rattle.yard.specs.declared.batch.Move.{Move}
 use Rattle.yard.specs.declared.batch.Step.{Step}
 use Rattle.yard.specs.Rules.{Rules}

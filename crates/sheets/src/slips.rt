@@ -1,10 +1,10 @@
 //! A sheet's fault as users see it: number, line and word.
 
 ghost use Rattle.std.specs.Prelude.{◌≡◌};
-ghost use Rattle.sheets.specs.Faults.{told, word_number};
+ghost use Rattle.sheets.specs.Faults.{told};
 
 use crate::faults::SheetFault;
-use text::faults::{LineFault, WordFault};
+use text::faults::LineFault;
 use text::slip::Slip;
 
 impl From<SheetFault> for Slip {
@@ -19,21 +19,9 @@ impl From<SheetFault> for Slip {
                 LineFault::NotRising => (7, line.number, 0),
                 LineFault::TooManySteps => (8, line.number, 0),
                 LineFault::Lacking => (9, line.number, 0),
-                LineFault::Word(word) => (word_number(word.fault), line.number, word.number),
+                LineFault::Word(word) => (word.fault as u8, line.number, word.number),
             },
         };
         Slip { number, line, word }
-    }
-}
-
-fn word_number(fault: WordFault) -> u8
-    ensures { result ≡ word_number fault }
-{
-    match fault {
-        WordFault::NotNumber => 1,
-        WordFault::TooLarge => 2,
-        WordFault::OutOfRange => 4,
-        WordFault::WrongLetter => 5,
-        WordFault::NoRows => 6,
     }
 }

@@ -1,5 +1,5 @@
 -- Results that tell where a fault stands, and one reading after another.
-use Rattle.std.specs.Prelude.{ℕ, Ok, Err, Result}
+use Rattle.std.specs.Prelude.{ℕ, Bool, cond, Ok, Err, Result}
 use Rattle.text.specs.declared.faults.WordFault.{WordFault}
 use Rattle.text.specs.declared.faults.At.{At}
 use Rattle.text.specs.declared.faults.LineFault.{LineFault}
@@ -12,6 +12,10 @@ on_err f (Err e) = Err (f e)
 abbrev pub and_then : {A B E : Type 0} → Result A E → (A → Result B E) → Result B E
 and_then (Ok x) f = f x
 and_then (Err e) f = Err e
+
+-- what a test lets pass
+abbrev pub passing : {A E : Type 0} → Bool → E → A → Result A E
+passing t e a = cond t (Ok a) (Err e)
 
 abbrev pub at_number : {F : Type 0} → ℕ → F → At F
 at_number k f = record { number = k; fault = f }

@@ -4,7 +4,7 @@ use Rattle.text.specs.declared.faults.WordFault.TheVariants.{OutOfRange, WrongLe
 use Rattle.text.specs.declared.faults.At.{At}
 use Rattle.text.specs.declared.faults.WordFault.{WordFault}
 use Rattle.text.specs.declared.reader.Reader.{Reader}
-use Rattle.text.specs.Faults.{on_err, and_then, at_number}
+use Rattle.text.specs.Faults.{on_err, and_then, at_number, passing}
 use Rattle.text.specs.Lines.{word_length, word_of}
 use Rattle.text.specs.Numerals.{number_of}
 use Rattle.text.specs.Words.{letter_of}
@@ -45,10 +45,6 @@ number_at k h = on_err (at_number k) (number_of (word_of h.bytes))
 
 abbrev pub letter_at : ℕ → Here → Result ℕ (At WordFault)
 letter_at k h = on_err (at_number k) (letter_of (word_of h.bytes))
-
--- what a test lets pass
-abbrev pub passing : {A E : Type 0} → Bool → E → A → Result A E
-passing t e a = cond t (Ok a) (Err e)
 
 abbrev pub number_within : ℕ → ℕ → ℕ → Here → Result ℕ (At WordFault)
 number_within k least most h = and_then (number_at k h) (λ n. passing (nat_le least n && nat_le n most) (at_number k OutOfRange) n)

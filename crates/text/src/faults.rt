@@ -1,17 +1,18 @@
 //! What can be wrong with a word and with a line. A word's fault is carried whole inside its line's.
 
 ghost use Rattle.std.specs.Prelude.{◌≡◌};
-ghost use Rattle.text.specs.Faults.{at_number, on_err};
+ghost use Rattle.text.specs.Faults.{at_number, on_err, passing};
 ghost use Rattle.text.specs.declared.faults.LineFault.TheVariants as lineFault;
 
+/// A fault of a word, by its number in the table.
 #[derive(Clone, Copy, Debug, PartialEq)]
 pub enum WordFault {
-    NotNumber,
-    TooLarge,
-    OutOfRange,
-    WrongLetter,
+    NotNumber = 1,
+    TooLarge = 2,
+    OutOfRange = 4,
+    WrongLetter = 5,
     /// an occupancy without rows
-    NoRows,
+    NoRows = 6,
 }
 
 /// A fault of the word or the line with this number, from 1.
@@ -46,4 +47,18 @@ pub fn fault_at<T, F>(r: Result<T, F>, number: usize) -> Result<T, At<F>>
     ensures { result ≡ on_err (at_number number) r }
 {
     r.map_err(|fault| At { number, fault })
+}
+
+/// The test that a word of a line has to pass; else it has this fault.
+pub fn passing(passes: bool, word: usize, fault: WordFault) -> Result<(), At<WordFault>>
+    ensures { result ≡ passing passes (at_number word fault) tt }
+{
+    if passes {
+        Ok(())
+    } else {
+        Err(At {
+            number: word,
+            fault,
+        })
+    }
 }

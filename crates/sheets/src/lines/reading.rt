@@ -1,23 +1,15 @@
 //! Reading one line of a sheet.
 
 ghost use Rattle.std.specs.Prelude.{◌≡◌, ◌+◌, ◌-◌, ◌<◌, ◌≤◌, IfOk};
-ghost use Rattle.text.specs.Faults.{at_number};
-ghost use Rattle.text.specs.Reading.{here, passing};
+ghost use Rattle.text.specs.Reading.{here};
 ghost use Rattle.sheets.specs.Lines.{answered, kind_line, count_line, occupancy_line, row_value, row_line, move_line, step_line, choice_line};
 
 use super::{Row, Size};
-use text::faults::{At, LineFault, WordFault, fault_at};
+use text::faults::{LineFault, WordFault, fault_at, passing};
 use text::reader::Reader;
 use yard::batch::{Move, Order, Step};
 use yard::full::{CELLS, STEPS};
 use yard::kind::Kind;
-
-// The test that this word of the line has to pass; else it has this fault.
-fn passing(passes: bool, word: usize, fault: WordFault) -> Result<(), At<WordFault>>
-    ensures { result ≡ passing passes (at_number word fault) tt }
-{
-    fault_at(passes.then_some(()).ok_or(fault), word)
-}
 
 /// The first line: the kind's letter, the cells and the share.
 pub(crate) fn kind_line(reader: &mut Reader, letter: char) -> Result<Size, LineFault>

@@ -1,14 +1,12 @@
 //! What the reader gives: whether its line is as it should be, and the words of the line, one after another.
 
-ghost use Rattle.std.specs.Prelude.{◌≡◌, ◌≤◌, Bool, length as size};
-ghost use Rattle.std.specs.Fn.{FnOnceReturnsAt, FnOnceTakesAt};
-ghost use Rattle.text.specs.Faults.{at_number};
+ghost use Rattle.std.specs.Prelude.{◌≡◌, ◌≤◌, length as size};
 ghost use Rattle.text.specs.Lines.{line_there, word_length, word_of};
-ghost use Rattle.text.specs.Reading.{WentPastWord, here, number_at, number_within, number_below, letter_at, letter_is, passing};
+ghost use Rattle.text.specs.Reading.{WentPastWord, here, number_at, number_within, number_below, letter_at, letter_is};
 ghost use Rattle.text.specs.Words.{seen, sorted};
 
 use super::Reader;
-use crate::faults::{At, LineFault, WordFault, fault_at};
+use crate::faults::{At, LineFault, WordFault, fault_at, passing};
 use crate::lines::{LF, first_line, first_word, has_words};
 use crate::words::{Word, sort_word};
 
@@ -71,11 +69,11 @@ impl<'a> Reader<'a> {
     {
         let number = self.number(word)?;
         passing(
-            number,
-            |n| (least..=most).contains(n),
+            (least..=most).contains(&number),
             word,
             WordFault::OutOfRange,
-        )
+        )?;
+        Ok(number)
     }
 
     /// A number below `end`.
@@ -84,7 +82,8 @@ impl<'a> Reader<'a> {
         ensures moved { WentPastWord self.old self.new }
     {
         let number = self.number(word)?;
-        passing(number, |n| *n < end, word, WordFault::OutOfRange)
+        passing(number < end, word, WordFault::OutOfRange)?;
+        Ok(number)
     }
 
     /// The next word as a letter.
@@ -101,24 +100,7 @@ impl<'a> Reader<'a> {
         ensures moved { WentPastWord self.old self.new }
     {
         let found = self.letter(word)?;
-        passing(found, |l| *l == letter, word, WordFault::WrongLetter)
+        passing(found == letter, word, WordFault::WrongLetter)?;
+        Ok(found)
     }
-}
-
-// What was read as this word of the line, if it passes the test; else the word has this fault.
-fn passing<T, P: FnOnce(&T) -> bool>(
-    found: T,
-    passes: P,
-    word: usize,
-    fault: WordFault,
-) -> Result<T, At<WordFault>>
-where
-    T: Drop,
-    requires { FnOnceTakesAt P.FnOnce passes found }
-    ensures { (b : Bool) × FnOnceReturnsAt P.FnOnce passes found b × (result ≡ passing b (at_number word fault) found) }
-{
-    Some(found).filter(passes).ok_or(At {
-        number: word,
-        fault,
-    })
 }
