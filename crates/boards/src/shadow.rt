@@ -35,6 +35,13 @@ impl<'a, 'b, V: Copy> ShadowBoard<'a, 'b, V> {
         clear(changes, base);
         ShadowBoard { changes, base }
     }
+
+    // The cells are those that have both a place and a base value.
+    fn cells(&self) -> usize
+        ensures { result ≡ min (length self.now.changes.now) (length self.now.base.now) }
+    {
+        self.changes.len().min(self.base.len())
+    }
 }
 
 impl<V: Copy> Board for ShadowBoard<'_, '_, V> {
@@ -44,13 +51,12 @@ impl<V: Copy> Board for ShadowBoard<'_, '_, V> {
 
     ghost around = { shadow_around };
 
-    // the cells that have both a place and a base value
     fn count(&self) -> usize {
-        self.changes.len().min(self.base.len())
+        self.cells()
     }
 
     fn get(&self, cell: usize) -> Result<V, Refusal> {
-        if cell < self.base.len().min(self.changes.len()) {
+        if cell < self.cells() {
             Ok(self.changes[cell].unwrap_or(self.base[cell]))
         } else {
             Err(Refusal::NoSuchCell)
@@ -58,7 +64,7 @@ impl<V: Copy> Board for ShadowBoard<'_, '_, V> {
     }
 
     fn set(&mut self, cell: usize, value: V) -> Result<(), Refusal> {
-        if cell < self.base.len().min(self.changes.len()) {
+        if cell < self.cells() {
             self.changes[cell] = Some(value);
             Ok(())
         } else {
@@ -74,6 +80,7 @@ fn clear<V: Copy>(changes: &mut [Option<V>], base: &[V])
     ensures past { drop (length base.now) changes.new ≡ drop (length base.now) changes.old }
 {
     let cells = base.len().min(changes.len());
+    // not `fill`, which promises copies only of what `Clone` gives
     for change in changes[..cells].iter_mut() {
         *change = None;
     }

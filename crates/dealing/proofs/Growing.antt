@@ -1,6 +1,6 @@
 -- Sizes that grow: one turn of the loop over them.
-use Rattle.std.proofs.Common.{◌≡◌, ℕ, ◌+◌, ◌<◌, ◌≤◌, Bool, true, false, cond, List, ◌∷◌, ◌++◌, length, get_or, take, drop, set, sym, ap, ◌∙◌, append_assoc, arith}
-use Rattle.std.proofs.lemmas.List.{drop_more, take_more_set, take_more, take_all, drop_all, drop-set-lt, get_or-drop, append-nil}
+use Rattle.std.proofs.Common.{◌≡◌, ℕ, ◌+◌, ◌<◌, Bool, true, false, cond, List, ◌∷◌, ◌++◌, length, get_or, take, drop, set, sym, ap, ◌∙◌, append_assoc, arith}
+use Rattle.std.proofs.lemmas.List.{drop_more, take_more_set, take_more, drop-set-lt, get_or-drop}
 use Rattle.dealing.specs.Stages.{grown}
 
 pub drop_at : (i : ℕ) (xs ys : List ℕ) → drop i xs ≡ drop i ys → get_or xs i 0 ≡ get_or ys i 0
@@ -35,7 +35,3 @@ module _ (sizes old : List ℕ) (hit : List Bool) (i : ℕ) (hs : i < length siz
             (ap (λ (l : List ℕ). take i sizes ++ l) (sym (rw (e, z) at grown_more)) ∙ inv),
         drop_next i sizes old hs ho same,
       )
-
-pub grow_all : (sizes : List ℕ) (hit : List Bool) (i : ℕ) (G : List ℕ) → length sizes ≤ i → length hit ≤ i → take i sizes ++ grown (drop i hit) (drop i sizes) ≡ G → sizes ≡ G
-grow_all sizes hit i G h k inv =
-    sym (take_all i sizes h) ∙ sym (append-nil (take i sizes)) ∙ sym (rw (drop_all i hit k, drop_all i sizes h)) ∙ inv

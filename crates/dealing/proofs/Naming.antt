@@ -30,16 +30,6 @@ module _ {V : Type 0} (R : Rules V) (ss : List Step) (i : ℕ) (fs : List Bool) 
   written_more : (k : ℕ) → written R (drop i ss) k ≡ ((R.writes (get_or ss i no_step).order.letter (get_or ss i no_step).order.number && (eqb (get_or ss i no_step).cell k || false)) || written R (drop (i + 1) ss) k)
   written_more k = ap (λ (l : List Step). written R l k) (drop_more ss i no_step hi)
 
-  pub prepare_writes : (c k : ℕ) (W : Bool) → c ≡ (get_or ss i no_step).cell → R.writes (get_or ss i no_step).order.letter (get_or ss i no_step).order.number ≡ true → c < length fs →
-      (written R (drop i ss) k || get_or fs k false) ≡ W → (written R (drop (i + 1) ss) k || get_or (set fs c true) k false) ≡ W
-  prepare_writes c k W e w h inv =
-      flag_same (eqb c k) (written R (drop (i + 1) ss) k) (get_or fs k false) (get_or (set fs c true) k false) (flag_set fs c k h)
-      ∙ ap (λ (b : Bool). b || get_or fs k false) (sym (written_more k ∙ (rw (w, ← e, or_false (eqb c k))))) ∙ inv
-
-  pub prepare_looks : (k : ℕ) (W : Bool) → R.writes (get_or ss i no_step).order.letter (get_or ss i no_step).order.number ≡ false →
-      (written R (drop i ss) k || get_or fs k false) ≡ W → (written R (drop (i + 1) ss) k || get_or fs k false) ≡ W
-  prepare_looks k W w inv = ap (λ (b : Bool). b || get_or fs k false) (sym (written_more k ∙ (rw w))) ∙ inv
-
 pub prepare_all : {V : Type 0} (R : Rules V) (ss : List Step) (i n : ℕ) (fs : List Bool) → length ss ≤ i → length fs ≡ n →
     ((k : ℕ) → k < length fs → (written R (drop i ss) k || get_or fs k false) ≡ written R ss k) → fs ≡ active_flags R n ss
 unfolding active_flags

@@ -1,5 +1,5 @@
 -- What open leaves, from what it found out and what dealing left.
-use Rattle.std.proofs.Common.{◌≡◌, ℕ, ◌-◌, ◌≤◌, true, leb, List, ◌++◌, length, take, replicate, Some, None, ap, ◌∙◌, arith}
+use Rattle.std.proofs.Common.{◌≡◌, ℕ, ◌-◌, ◌≤◌, true, leb, List, ◌++◌, length, take, replicate, None, ap, ◌∙◌, arith}
 use borrow.Rule.Slice.PartMut.{post_of}
 use Rattle.std.proofs.lemmas.List.{length-replicate, length-take-le}
 use Rattle.std.proofs.lemmas.Bool.{leb-true}
@@ -9,7 +9,7 @@ use Rattle.yard.specs.Batches.{Listed}
 use Rattle.yard.specs.Fronts.{laid}
 use Rattle.yard.specs.Rules.{Rules}
 use Rattle.yard.specs.Runs.{Numbers}
-use Rattle.yard.specs.Told.{gives, refuses}
+use Rattle.yard.specs.Told.{gives}
 use Rattle.dealing.specs.Active.{Within}
 use Rattle.dealing.specs.Dealable.{Roomy}
 use Rattle.dealing.specs.Facts.{WellDealt}
@@ -19,9 +19,6 @@ use Rattle.dealing.proofs.NoConflict.{and_left, and_right}
 use Rattle.dealing.proofs.Shown.{well_dealt}
 
 module _ {V : Type 0} (R : Rules V) (b : Listed) (count : ℕ) (l : Lists) where
-  pub open_refuses : (n : ℕ) → Some n ≡ refusal R b (roomy l) count → opened (refuses n) l ≡ open_into R b count l
-  open_refuses n e = ap (λ o. settled o b (dealing R b) l) e
-
   pub open_fills : (n : Numbers) (after : Lists) → None ≡ refusal R b (roomy l) count → n ≡ numbers_of b (dealing R b) → after ≡ filled b (dealing R b) l → opened (gives n) after ≡ open_into R b count l
   open_fills n after e en ea = (rw (en, ea)) ∙ ap (λ o. settled o b (dealing R b) l) e
 

@@ -44,18 +44,6 @@ module _ (special cs rs sizes pairs : List ℕ) (n : ℕ) (f : Fused) (old : Fus
         pairs = λ a b l m. rw (← old.roots) (each a b l m ∙ omega (arith, old.pairs a b l m));
       }
 
-  pub fusing_join : (rs' sizes' : List ℕ) → ltb 1 (trues (hits rs special cs)) ≡ false → rs' ≡ joined_cells cs rs → sizes' ≡ grown (hits rs special cs) sizes →
-      Fusing special (fuse_one special cs f) rs' sizes' pairs (n + 0)
-  fusing_join rs' sizes' e p q =
-      let t : ltb 1 (trues (hits f.roots special cs)) ≡ false = rw old.roots at e in
-      rw t
-      record {
-        roots = p ∙ ap (joined_cells cs) old.roots;
-        sizes = rw (← old.roots, ← old.sizes) q;
-        skipped = omega (arith, old.skipped);
-        pairs = old.pairs;
-      }
-
 fuse_push : (special : List ℕ) (xs : List (List ℕ)) (y : List ℕ) (f : Fused) → fuse special (xs ++ y ∷ []) f ≡ fuse_one special y (fuse special xs f)
 fuse_push special [] y f = refl
 fuse_push special (x ∷ xs) y f = fuse_push special xs y (fuse_one special x f)

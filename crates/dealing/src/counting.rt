@@ -54,7 +54,7 @@ fn count_with(pairs: &mut [u16], hit: &[bool], i: usize)
     requires room { (b : ℕ) → i < b → b < length hit.now → pair_count pairs.old i b < 65535 }
     ensures { Counted (length hit.now) (λ a b. (a == i) && slice_index_or hit.now b false) pairs.old pairs.new }
 {
-    // by number: a chain that skips does not tell the proof which places are left
+    // by number: j is a place among the hits and in the pair counts, and counted from i + 1 it is no plainer
     for j in i + 1..hit.len() {
         if hit[j] {
             pairs[pair_place(i, j)] += 1;

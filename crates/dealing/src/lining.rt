@@ -40,6 +40,7 @@ fn line_up_lane(lane_of: &[u16], lane: u16, line_up: &mut [u16], start: usize) -
     ensures kept { drop result line_up.new ≡ drop result line_up.old }
 {
     let mut at = start;
+    // the places of other lanes are passed over, so that the next entry is counted
     for (k, l) in lane_of.iter().enumerate() {
         if *l == lane {
             line_up[at] = k as u16;

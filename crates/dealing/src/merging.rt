@@ -21,7 +21,7 @@ impl SpecialClusters<'_> {
         if !enough(share, self.clusters.prepared.moves.len(), self.skipped) {
             return;
         }
-        // by number, since each turn needs the whole
+        // by number: a turn works on the whole value, which a loop over its list would hold
         for i in 0..self.special.len() {
             self.merge_with(share, i);
         }
@@ -37,7 +37,7 @@ impl SpecialClusters<'_> {
         ensures same { GoesOn self.old self.new }
     {
         let one = self.special[i];
-        // by number: a chain that skips does not tell the proof which places are left
+        // by number, for the same reason
         for j in i + 1..self.special.len() {
             let other = self.special[j];
             let both = self.pairs[pair_place(i, j)];

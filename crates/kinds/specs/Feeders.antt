@@ -30,6 +30,12 @@ look_for_room n v = cond (nat_le (v.load + n) v.limit) (passes v) (fails 29)
 abbrev pub feeder_act : ℕ → Option Act
 feeder_act l = cond (l == 65) (Some Add) (cond (l == 83) (Some Shed) (cond (l == 72) (Some Look) None))
 
+-- the numbers with which an act is known
+abbrev pub takes : Act → ℕ → Bool
+takes Add n = nat_le 1 n && nat_le n 4000
+takes Shed n = nat_le 1 n && nat_le n 4000
+takes Look n = nat_le n 4000
+
 abbrev pub act_on : Act → ℕ → Section → Effect Section
 act_on Add = add_load
 act_on Shed = shed_load

@@ -26,6 +26,12 @@ look_for_tram n v = cond (v == n) (passes v) (fails 26)
 abbrev pub stand_act : ℕ → Option Act
 stand_act l = cond (l == 84) (Some Take) (cond (l == 80) (Some Put) (cond (l == 76) (Some Look) None))
 
+-- the numbers with which an act is known
+abbrev pub takes : Act → ℕ → Bool
+takes Take n = nat_le 1 n && nat_le n 9999
+takes Put n = nat_le 1 n && nat_le n 9999
+takes Look n = nat_le n 9999
+
 abbrev pub act_on : Act → ℕ → ℕ → Effect ℕ
 act_on Take = take_tram
 act_on Put = put_tram

@@ -1,7 +1,7 @@
 //! Feeders: a section holds a load and a limit in amperes. A adds load, S sheds it, H looks for headroom.
 
-ghost use Rattle.std.specs.Prelude.{◌≡◌};
-ghost use Rattle.kinds.specs.Feeders.{feeder_rules, feeder_rows, feeder_act, act_on, same_section, raised_section, lowered_section};
+ghost use Rattle.std.specs.Prelude.{◌≡◌, cond, None};
+ghost use Rattle.kinds.specs.Feeders.{feeder_rules, feeder_rows, feeder_knows, feeder_act, takes, act_on, same_section, raised_section, lowered_section};
 ghost use Rattle.yard.specs.Told.{effect};
 ghost use Rattle.std.proofs.Common.{rules};
 
@@ -79,11 +79,7 @@ impl Kind for Feeders {
     }
 
     fn knows(order: Order) -> bool {
-        match Act::of_letter(order.letter) {
-            Some(Act::Add | Act::Shed) => 1 <= order.number && order.number <= MOST,
-            Some(Act::Look) => order.number <= MOST,
-            None => false,
-        }
+        Act::of_order(order).is_some()
     }
 
     fn writes(order: Order) -> bool {
@@ -91,10 +87,7 @@ impl Kind for Feeders {
     }
 
     fn apply(order: Order, value: Section) -> Option<Result<Section, Cause>> {
-        if !Self::knows(order) {
-            return None;
-        }
-        let act = Act::of_letter(order.letter)?;
+        let act = Act::of_order(order)?;
         Some(act.done(order.number, value))
     }
 }
@@ -119,6 +112,28 @@ impl Act {
             'S' => Some(Act::Shed),
             'H' => Some(Act::Look),
             _ => None,
+        }
+    }
+
+    // What an order does that the kind knows.
+    fn of_order(order: Order) -> Option<Act>
+        ensures { result ≡ cond (feeder_knows order.letter order.number) (feeder_act order.letter) None }
+    {
+        let act = Act::of_letter(order.letter)?;
+        if act.takes(order.number) {
+            Some(act)
+        } else {
+            None
+        }
+    }
+
+    // Whether the number is in the range of the act.
+    fn takes(self, number: u16) -> bool
+        ensures { result ≡ takes self number }
+    {
+        match self {
+            Act::Add | Act::Shed => (1..=MOST).contains(&number),
+            Act::Look => number <= MOST,
         }
     }
 

@@ -1,7 +1,7 @@
 //! Stands: a cell holds the number of its tram, and 0 where it is empty. T takes a tram, P puts one, L looks for one.
 
-ghost use Rattle.std.specs.Prelude.{◌≡◌, nat_eq};
-ghost use Rattle.kinds.specs.Stands.{stand_rules, stand_rows, stand_act, act_on, take_tram, put_tram, look_for_tram};
+ghost use Rattle.std.specs.Prelude.{◌≡◌, cond, None, nat_eq};
+ghost use Rattle.kinds.specs.Stands.{stand_rules, stand_rows, stand_knows, stand_act, takes, act_on, take_tram, put_tram, look_for_tram};
 ghost use Rattle.yard.specs.Told.{effect};
 ghost use Rattle.std.proofs.Common.{rules};
 
@@ -57,11 +57,7 @@ impl Kind for Stands {
     }
 
     fn knows(order: Order) -> bool {
-        match Act::of_letter(order.letter) {
-            Some(Act::Take | Act::Put) => 1 <= order.number && order.number <= MOST,
-            Some(Act::Look) => order.number <= MOST,
-            None => false,
-        }
+        Act::of_order(order).is_some()
     }
 
     fn writes(order: Order) -> bool {
@@ -69,10 +65,7 @@ impl Kind for Stands {
     }
 
     fn apply(order: Order, value: u16) -> Option<Result<u16, Cause>> {
-        if !Self::knows(order) {
-            return None;
-        }
-        let act = Act::of_letter(order.letter)?;
+        let act = Act::of_order(order)?;
         Some(act.done(order.number, value))
     }
 }
@@ -100,6 +93,28 @@ impl Act {
             'P' => Some(Act::Put),
             'L' => Some(Act::Look),
             _ => None,
+        }
+    }
+
+    // What an order does that the kind knows.
+    fn of_order(order: Order) -> Option<Act>
+        ensures { result ≡ cond (stand_knows order.letter order.number) (stand_act order.letter) None }
+    {
+        let act = Act::of_letter(order.letter)?;
+        if act.takes(order.number) {
+            Some(act)
+        } else {
+            None
+        }
+    }
+
+    // Whether the number is in the range of the act.
+    fn takes(self, number: u16) -> bool
+        ensures { result ≡ takes self number }
+    {
+        match self {
+            Act::Take | Act::Put => (1..=MOST).contains(&number),
+            Act::Look => number <= MOST,
         }
     }
 

@@ -60,6 +60,7 @@ fn under_way(lanes: &[LaneRow], count: usize) -> usize
     ensures bound { result ≤ 65535 * count }
 {
     let mut taken = 0;
+    // not `sum`, which asks for a bound on every run of the chain
     for row in &lanes[..count] {
         taken += usize::from(row.taken);
     }

@@ -82,7 +82,7 @@ abbrev pub leaves : {A B E : Type 0} → Result A E → B → Here → Result (R
 leaves (Ok a) b h = Ok (read b h)
 leaves (Err e) b h = Err e
 
--- the same where the answer counts
+-- the same where what is left is said of the answer
 abbrev pub leaves_at : {A B E : Type 0} → Result A E → (A → B) → Here → Result (Read B) E
 leaves_at (Ok a) f h = Ok (read (f a) h)
 leaves_at (Err e) f h = Err e

@@ -1,5 +1,5 @@
 -- What a reader has before it, and what it makes of its next word.
-use Rattle.std.specs.Prelude.{◌≡◌, ℕ, zero, suc, ◌+◌, Bool, cond, ◌&&◌, List, length, drop, Ok, Err, Result, ◌==◌, nat_le, nat_lt, slice_index}
+use Rattle.std.specs.Prelude.{◌≡◌, ℕ, zero, suc, ◌+◌, Bool, cond, ◌&&◌, List, length, drop, Result, ◌==◌, nat_le, nat_lt, slice_index}
 use Rattle.text.specs.declared.faults.WordFault.TheVariants.{OutOfRange, WrongLetter}
 use Rattle.text.specs.declared.faults.At.{At}
 use Rattle.text.specs.declared.faults.WordFault.{WordFault}

@@ -14,6 +14,7 @@ pub enum Sort {
     Unknown,
 }
 
+/// A word by its bytes, which are part of the sheet, and the place of the first of them.
 #[derive(Clone, Copy)]
 pub struct Word<'a> {
     pub sort: Sort,

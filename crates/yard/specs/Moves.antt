@@ -4,6 +4,13 @@ use Rattle.yard.specs.declared.batch.Step.{Step}
 use Rattle.yard.specs.declared.batch.Move.{Move}
 use Rattle.yard.specs.Rules.{Rules}
 
+-- an entry of a list of steps, and of a list of moves, that nothing has been written to; 32 is the space, which is no order's letter
+abbrev pub nothing_written : Step
+nothing_written = record { cell = 0; order = record { letter = 32; number = 0 } }
+
+abbrev pub nothing_in_moves : Move
+nothing_in_moves = record { label = 0; first = 0; count = 0 }
+
 abbrev pub is_in : ℕ → List ℕ → Bool
 is_in x [] = false
 is_in x (y ∷ ys) = y == x || is_in x ys

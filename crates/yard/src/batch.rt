@@ -1,7 +1,7 @@
 //! Steps, moves and batches.
 
 ghost use Rattle.std.specs.Prelude.{◌≡◌};
-ghost use Rattle.yard.specs.Moves.{steps_of};
+ghost use Rattle.yard.specs.Moves.{steps_of, nothing_written, nothing_in_moves};
 
 use crate::part::part;
 
@@ -56,12 +56,16 @@ impl Move {
 }
 
 impl Default for Step {
+    ghost is_default = { λ step. step ≡ nothing_written };
+
     fn default() -> Step {
         Step::NONE
     }
 }
 
 impl Default for Move {
+    ghost is_default = { λ found. found ≡ nothing_in_moves };
+
     fn default() -> Move {
         Move::NONE
     }

@@ -1,10 +1,16 @@
-//! The full lengths of lists: enough for every sheet.
+//! The most that a sheet may have, and the full lengths of lists: enough for every sheet.
 
 /// Cells, and lists with an entry for each cell.
 pub const CELLS: usize = 1024;
 
 /// Moves, and lists with an entry for each move.
 pub const MOVES: usize = 256;
+
+/// Steps of one move.
+pub const MOVE_STEPS: u16 = 8;
+
+/// The share of merging, in thousandths.
+pub const SHARE: u16 = 1000;
 
 /// Steps, and lists with an entry for each step.
 pub const STEPS: usize = 1024;

@@ -6,7 +6,7 @@ ghost use Rattle.dealing.specs.Opening.{begins_at, end_to_end, shaped, in_range,
 
 use crate::fitting::{all_below, all_known};
 use yard::batch::{Batch, Move};
-use yard::full::{CELLS, CHOICES, MOVES, STEPS};
+use yard::full::{CELLS, CHOICES, MOVE_STEPS, MOVES, SHARE, STEPS};
 use yard::kind::Kind;
 use yard::refusal::Refusal;
 
@@ -63,11 +63,11 @@ fn end_to_end(moves: &[Move], count: usize) -> bool
 fn follows(found: Move, at: usize) -> bool
     ensures { result ≡ begins_at at found }
 {
-    usize::from(found.first) == at && found.count >= 1 && found.count <= 8
+    usize::from(found.first) == at && (1..=MOVE_STEPS).contains(&found.count)
 }
 
 fn is_in_range(batch: Batch) -> bool
     ensures { result ≡ in_range (listed batch.entry) }
 {
-    batch.share >= 1 && batch.share <= 1000 && batch.cells >= 1 && usize::from(batch.cells) <= CELLS
+    (1..=SHARE).contains(&batch.share) && batch.cells >= 1 && usize::from(batch.cells) <= CELLS
 }

@@ -52,7 +52,7 @@ impl ActiveCells<'_> {
         ensures first { result ≡ head_of (cells_in self.entry) }
         ensures within { IfSome result (λ cell. cell < cell_count self.entry) }
     {
-        // a loop: what `find_map` answers is not tied to a list
+        // a loop: with `find_map` the proof did not close
         for step in self.steps {
             if let Some(cell) = self.counted(*step) {
                 return Some(cell);

@@ -8,7 +8,7 @@ use super::{Row, Size};
 use text::faults::{LineFault, WordFault, fault_at, passing};
 use text::reader::Reader;
 use yard::batch::{Move, Order, Step};
-use yard::full::{CELLS, STEPS};
+use yard::full::{CELLS, MOVE_STEPS, SHARE, STEPS};
 use yard::kind::Kind;
 
 /// The first line: the kind's letter, the cells and the share.
@@ -19,7 +19,7 @@ pub(crate) fn kind_line(reader: &mut Reader, letter: char) -> Result<Size, LineF
     reader.line_there(3)?;
     reader.letter_is(1, letter)?;
     let cells = reader.number_within(2, 1, CELLS as u16)?;
-    let share = reader.number_within(3, 1, 1000)?;
+    let share = reader.number_within(3, 1, SHARE)?;
     Ok(Size { cells, share })
 }
 
@@ -81,7 +81,7 @@ pub(crate) fn move_line(reader: &mut Reader, first: u16) -> Result<Move, LineFau
 {
     reader.line_there(2)?;
     let label = reader.number_within(1, 1, 65535)?;
-    let count = reader.number_within(2, 1, 8)?;
+    let count = reader.number_within(2, 1, MOVE_STEPS)?;
     if usize::from(first) + usize::from(count) > STEPS {
         return Err(LineFault::TooManySteps);
     }

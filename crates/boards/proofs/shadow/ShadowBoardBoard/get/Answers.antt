@@ -5,12 +5,12 @@ use Rattle.boards.proofs.Cells.{value_past}
 use Rattle.boards.proofs.Changes.{length-shown, shown_at}
 use Rattle.boards.proofs.shadow.ShadowBoardBoard.get.Goals as goal
 
-pub returns-then-cell-min : goal.returns-then-cell-min
-returns-then-cell-min g c =
+pub returns-then-cell-cells : goal.returns-then-cell-cells
+returns-then-cell-cells g c =
     let s = c.args.self.now in
     shown_at s.changes.now s.base.now c.args.cell _ _ _ (omega arith) c.unwrap_or.ensures
 
-pub returns-else-cell-min : goal.returns-else-cell-min
-returns-else-cell-min g c =
+pub returns-else-cell-cells : goal.returns-else-cell-cells
+returns-else-cell-cells g c =
     let s = c.args.self.now in
     value_past (shadow_values s) c.args.cell (omega (arith, length-shown s.changes.now s.base.now))

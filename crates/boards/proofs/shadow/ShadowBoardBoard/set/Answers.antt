@@ -6,20 +6,20 @@ use Rattle.boards.proofs.Cells.{there_within, there_past}
 use Rattle.boards.proofs.Changes.{length-shown, shown_set}
 use Rattle.boards.proofs.shadow.ShadowBoardBoard.set.Goals as goal
 
-pub returns-then-cell-min-clause-answer : goal.returns-then-cell-min-clause-answer
-returns-then-cell-min-clause-answer g c =
+pub returns-then-cell-cells-clause-answer : goal.returns-then-cell-cells-clause-answer
+returns-then-cell-cells-clause-answer g c =
     let s = c.args.self.now in
     there_within (shadow_values s) c.args.cell (omega (arith, length-shown s.changes.now s.base.now))
 
-pub returns-then-cell-min-clause-values : goal.returns-then-cell-min-clause-values
-returns-then-cell-min-clause-values g c = shown_set c.args.self.now.changes.now c.args.self.now.base.now c.args.cell c.args.value
+pub returns-then-cell-cells-clause-values : goal.returns-then-cell-cells-clause-values
+returns-then-cell-cells-clause-values g c = shown_set c.args.self.now.changes.now c.args.self.now.base.now c.args.cell c.args.value
 
-pub returns-else-cell-min-clause-answer : goal.returns-else-cell-min-clause-answer
-returns-else-cell-min-clause-answer g c =
+pub returns-else-cell-cells-clause-answer : goal.returns-else-cell-cells-clause-answer
+returns-else-cell-cells-clause-answer g c =
     let s = c.args.self.now in
     there_past (shadow_values s) c.args.cell (omega (arith, length-shown s.changes.now s.base.now))
 
-pub returns-else-cell-min-clause-values : goal.returns-else-cell-min-clause-values
-returns-else-cell-min-clause-values g c =
+pub returns-else-cell-cells-clause-values : goal.returns-else-cell-cells-clause-values
+returns-else-cell-cells-clause-values g c =
     let s = c.args.self.now in
     sym (set_past (shadow_values s) c.args.cell c.args.value (omega (arith, length-shown s.changes.now s.base.now)))
