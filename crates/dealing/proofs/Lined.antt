@@ -1,8 +1,9 @@
 -- The loops that lay out the line-up and the lanes' rows.
-use Rattle.std.proofs.Common.{◌≡◌, ℕ, zero, suc, ◌+◌, ◌<◌, ◌≤◌, ◌≢◌, List, [], ◌∷◌, ◌++◌, length, get_or, take, drop, set, sym, ap, ◌∙◌, inl, inr, append_assoc, add-one, arith, below_more}
+use Rattle.std.proofs.Common.{◌≡◌, ℕ, zero, suc, ◌+◌, ◌-◌, ◌<◌, ◌≤◌, ◌≢◌, List, [], ◌∷◌, ◌++◌, length, get_or, take, drop, set, sym, ap, ◌∙◌, inl, inr, append_assoc, add-one, arith}
 use Rattle.std.specs.List.{range_with_len}
 use Rattle.std.proofs.lemmas.Bool.{cases_eq, eq-eqb, ne_eqb}
-use Rattle.std.proofs.lemmas.List.{length-append, append-nil, drop_more, drop_all, drop-drop, take_more_set, drop-set-lt, take-append-drop, get_or-set_same, get_or-set_other, get_or-take, length-take-le, length-set}
+use Rattle.std.proofs.lemmas.List.{length-append, append-nil, drop_more, drop_all, drop-drop, take_more_set, drop-set-lt, take-append-drop}
+use Rattle.std.proofs.lemmas.List.Edits.{fill_by_more}
 use Rattle.std.proofs.lemmas.List.FromFn.{fill_by_all, length-map-range_with_len}
 use Rattle.yard.specs.declared.run.LaneRow.{LaneRow}
 use Rattle.yard.specs.Fronts.{laid}
@@ -95,38 +96,27 @@ pub drop_further : {X : Type 0} (at n : ℕ) (xs ys zs : List X) → drop (at + 
 drop_further at n xs ys zs e f = e ∙ sym (drop-drop n at ys) ∙ ap (drop n) f ∙ drop-drop n at zs
 
 -- one more row
-module _ (ls : List ℕ) (Q q at end : ℕ) (row : LaneRow) (rows old : List LaneRow) (hq : q < Q) (room : Q < length rows)
-    (ea : at ≡ length (lined ls (range_with_len 1 q))) (ee : end ≡ at + length (places_from 0 (q + 1) ls)) (er : row ≡ row_from at end) where
-  row_is : row ≡ row_of (dealt_of ls Q) (q + 1)
-  row_is = er ∙ (rw (ee, ea, add-one q))
-
-  pub rows_more : ((k : ℕ) → k < q → get_or rows (k + 1) (row_from 0 0) ≡ row_of (dealt_of ls Q) (k + 1)) →
-      (k : ℕ) → k < q + 1 → get_or (set rows (q + 1) row) (k + 1) (row_from 0 0) ≡ row_of (dealt_of ls Q) (k + 1)
-  rows_more each =
-      below_more (λ k. get_or (set rows (q + 1) row) (k + 1) (row_from 0 0) ≡ row_of (dealt_of ls Q) (k + 1)) q
-      (λ k h. get_or-set_other rows (q + 1) (k + 1) row (row_from 0 0) (λ e. omega arith) ∙ each k h)
-      (get_or-set_same rows (q + 1) row (row_from 0 0) (omega arith) ∙ row_is)
-
-  pub rows_kept : drop (Q + 1) rows ≡ drop (Q + 1) old → drop (Q + 1) (set rows (q + 1) row) ≡ drop (Q + 1) old
-  rows_kept e = drop-set-lt (Q + 1) rows (q + 1) row (omega arith) ∙ e
+pub rows_more : (ls : List ℕ) (Q q at end : ℕ) (row : LaneRow) (rows : List LaneRow) → q < length rows → at ≡ length (lined ls (range_with_len 1 q)) → end ≡ at + length (places_from 0 (q + 1) ls) → row ≡ row_from at end →
+    ((k : ℕ) → k < q → get_or rows k (row_from 0 0) ≡ row_of (dealt_of ls Q) (k + 1)) →
+    (k : ℕ) → k < q + 1 → get_or (set rows q row) k (row_from 0 0) ≡ row_of (dealt_of ls Q) (k + 1)
+rows_more ls Q q at end row rows room ea ee er each =
+    let e : row ≡ row_of (dealt_of ls Q) (q + 1) = er ∙ (rw (ee, ea, add-one q)) in
+    rw e (fill_by_more (λ k. row_of (dealt_of ls Q) (k + 1)) rows q (row_from 0 0) room each)
 
 -- the row of lane 0 comes last
-pub rows_all : (ls : List ℕ) (Q q at end : ℕ) (row : LaneRow) (rows old : List LaneRow) → Q ≤ q → Q < length rows → at ≡ length (lined ls (range_with_len 1 Q)) → end ≡ at + length (places_from 0 0 ls) → row ≡ row_from at end →
-    ((k : ℕ) → k < q → get_or rows (k + 1) (row_from 0 0) ≡ row_of (dealt_of ls Q) (k + 1)) → drop (Q + 1) rows ≡ drop (Q + 1) old →
-    set rows 0 row ≡ laid (lane_rows (dealt_of ls Q)) old
+pub rows_all : (ls : List ℕ) (Q at end : ℕ) (row : LaneRow) (rows old : List LaneRow) → length rows ≡ Q → Q < length old → at ≡ length (lined ls (range_with_len 1 Q)) → end ≡ at + length (places_from 0 0 ls) → row ≡ row_from at end →
+    ((k : ℕ) → k < Q → get_or rows k (row_from 0 0) ≡ row_of (dealt_of ls Q) (k + 1)) →
+    set (take 1 old ++ (rows ++ drop (Q + 1 - 1) (drop 1 old))) 0 row ≡ laid (lane_rows (dealt_of ls Q)) old
 unfolding lane_rows
-rows_all ls Q q at end row rows old hq room ea ee er each kept =
-    let now = set rows 0 row in
-    let long = length-set rows 0 row in
-    let front = fill_by_all (row_of (dealt_of ls Q)) (take (Q + 1) now) (Q + 1) (row_from 0 0) (length-take-le (Q + 1) now (omega arith))
-    (λ k h. get_or-take (Q + 1) now k (row_from 0 0) h ∙ at_row k h) in
-    sym (take-append-drop (Q + 1) now) ∙ ap (λ (l : List LaneRow). l ++ drop (Q + 1) now) front
-    ∙ ap (λ (l : List LaneRow). lane_rows (dealt_of ls Q) ++ l)
-    (drop-set-lt (Q + 1) rows 0 row (omega arith) ∙ kept ∙ ap (λ (n : ℕ). drop n old) (sym (length-map-range_with_len (row_of (dealt_of ls Q)) 0 (Q + 1))))
+rows_all ls Q at end row rows [] long room ea ee er each = absurd (omega arith)
+rows_all ls Q at end row rows (x ∷ xs) long room ea ee er each =
+    let rest : suc (Q + 1 - 1) ≡ length (lane_rows (dealt_of ls Q)) = omega (arith, length-map-range_with_len (row_of (dealt_of ls Q)) 0 (Q + 1)) in
+    ap (λ (l : List LaneRow). l ++ drop (Q + 1 - 1) xs) (fill_by_all (row_of (dealt_of ls Q)) (row ∷ rows) (Q + 1) (row_from 0 0) (omega arith) at_row)
+    ∙ ap (λ (n : ℕ). lane_rows (dealt_of ls Q) ++ drop n (x ∷ xs)) rest
   where
-    at_row : (k : ℕ) → k < Q + 1 → get_or (set rows 0 row) k (row_from 0 0) ≡ row_of (dealt_of ls Q) k
-    at_row zero h = get_or-set_same rows 0 row (row_from 0 0) (omega arith) ∙ er ∙ (rw (ee, ea))
-    at_row (suc k) h = get_or-set_other rows 0 (suc k) row (row_from 0 0) (λ e. omega arith) ∙ (rw (add-one k) at (each k (omega arith)))
+    at_row : (k : ℕ) → k < Q + 1 → get_or (row ∷ rows) k (row_from 0 0) ≡ row_of (dealt_of ls Q) k
+    at_row zero h = er ∙ (rw (ee, ea))
+    at_row (suc k) h = rw (add-one k) at (each k (omega arith))
 
 -- the line-up once the rest list is in it
 pub line_whole : (ls : List ℕ) (Q at end : ℕ) (lu old : List ℕ) → take end lu ≡ lined ls (range_with_len 1 Q) ++ places_from 0 0 ls → end ≡ at + length (places_from 0 0 ls) → at ≡ length (lined ls (range_with_len 1 Q)) →

@@ -21,10 +21,9 @@ pub(crate) fn line_up_moves(
     ensures lanes { lanes.new ≡ laid (lane_rows (dealt_of lane_of.now queues)) lanes.old }
 {
     let mut at = 0;
-    // by number: the queue made after q others is lane q + 1
-    for q in 0..queues {
+    for (q, row) in lanes[1..=queues].iter_mut().enumerate() {
         let end = line_up_lane(lane_of, (q + 1) as u16, line_up, at);
-        lanes[q + 1] = new_row(at, end);
+        *row = new_row(at, end);
         at = end;
     }
     let end = line_up_lane(lane_of, 0, line_up, at);

@@ -8,5 +8,4 @@ invariant-loop-q l =
     (l.at ≡ length (lined l.lane_of (range_with_len 1 l.q)))
     × (take l.at l.line_up ≡ lined l.lane_of (range_with_len 1 l.q))
     × (drop l.at l.line_up ≡ drop l.at l.initial.line_up)
-    × ((k : ℕ) → k < l.q → get_or l.lanes (k + 1) (row_from 0 0) ≡ row_of (dealt_of l.lane_of l.queues) (k + 1))
-    × (drop (l.queues + 1) l.lanes ≡ drop (l.queues + 1) l.initial.lanes)
+    × ((k : ℕ) → k < l.q → get_or l.row-items k (row_from 0 0) ≡ row_of (dealt_of l.lane_of l.queues) (k + 1))
