@@ -1,8 +1,8 @@
--- The loops that lay out the line-up and the lanes' rows.
-use Rattle.std.proofs.Common.{◌≡◌, ℕ, zero, suc, ◌+◌, ◌-◌, ◌<◌, ◌≤◌, ◌≢◌, List, [], ◌∷◌, ◌++◌, length, get_or, take, drop, set, sym, ap, ◌∙◌, inl, inr, append_assoc, add-one, arith}
+-- The loop that lays out the line-up and the lanes' rows.
+use Rattle.std.proofs.Common.{◌≡◌, ℕ, zero, suc, ◌+◌, ◌-◌, ◌<◌, ◌≤◌, List, [], ◌∷◌, ◌++◌, length, get_or, take, drop, set, sym, ap, ◌∙◌, inl, inr, append_assoc, add-one, arith}
 use Rattle.std.specs.List.{range_with_len}
 use Rattle.std.proofs.lemmas.Bool.{cases_eq, eq-eqb, ne_eqb}
-use Rattle.std.proofs.lemmas.List.{length-append, append-nil, drop_more, drop_all, drop-drop, take_more_set, drop-set-lt, take-append-drop}
+use Rattle.std.proofs.lemmas.List.{length-append, append-nil, drop-drop, take-append-drop}
 use Rattle.std.proofs.lemmas.List.Edits.{fill_by_more}
 use Rattle.std.proofs.lemmas.List.FromFn.{fill_by_all, length-map-range_with_len}
 use Rattle.yard.specs.declared.run.LaneRow.{LaneRow}
@@ -10,43 +10,6 @@ use Rattle.yard.specs.Fronts.{laid}
 use Rattle.dealing.specs.Lanes.{places_from, lined, line_up_of, dealt_of, row_from, row_of, lane_rows}
 use Rattle.dealing.specs.Facts.{times}
 use Rattle.dealing.proofs.StandsOnce.{times-append, counting_before, going, length-lined}
-
--- one more move looked at
-module _ (ls : List ℕ) (q k : ℕ) (hk : k < length ls) where
-  pub places_yes : get_or ls k 0 ≡ q → places_from k q (drop k ls) ≡ k ∷ places_from (k + 1) q (drop (k + 1) ls)
-  places_yes e = ap (places_from k q) (drop_more ls k 0 hk) ∙ (rw (eq-eqb (get_or ls k 0) q e, add-one k))
-
-  pub places_no : get_or ls k 0 ≢ q → places_from k q (drop k ls) ≡ places_from (k + 1) q (drop (k + 1) ls)
-  places_no e = ap (places_from k q) (drop_more ls k 0 hk) ∙ (rw (ne_eqb (get_or ls k 0) q e, add-one k))
-
-drop_next : (i : ℕ) (xs ys : List ℕ) → i < length xs → i < length ys → drop i xs ≡ drop i ys → drop (i + 1) xs ≡ drop (i + 1) ys
-drop_next i xs ys h k e =
-    let p : get_or xs i 0 ∷ drop (i + 1) xs ≡ get_or ys i 0 ∷ drop (i + 1) ys = sym (drop_more xs i 0 h) ∙ e ∙ drop_more ys i 0 k in cc
-
-module _ (lu old ls T : List ℕ) (q k at end : ℕ) (hk : k < length ls) (long : length lu ≡ length old) (room : end ≤ length old)
-    (one : take at lu ++ places_from k q (drop k ls) ≡ T) (two : at + length (places_from k q (drop k ls)) ≡ end) (three : drop at lu ≡ drop at old) where
-  pub line_room : get_or ls k 0 ≡ q → at < length lu
-  line_room e = omega (arith, ap length (places_yes ls q k hk e))
-
-  pub line_yes : get_or ls k 0 ≡ q →
-      (take (at + 1) (set lu at k) ++ places_from (k + 1) q (drop (k + 1) ls) ≡ T) × (at + 1 + length (places_from (k + 1) q (drop (k + 1) ls)) ≡ end) × (drop (at + 1) (set lu at k) ≡ drop (at + 1) old)
-  line_yes e =
-      let h = line_room e in (
-        rw (take_more_set lu at k h, append_assoc) (ap (λ (l : List ℕ). take at lu ++ l) (sym (places_yes ls q k hk e)) ∙ one),
-        omega (arith, ap length (places_yes ls q k hk e)),
-        drop-set-lt (at + 1) lu at k (omega arith) ∙ drop_next at lu old h (omega arith) three,
-      )
-
-  pub line_no : get_or ls k 0 ≢ q →
-      (take at lu ++ places_from (k + 1) q (drop (k + 1) ls) ≡ T) × (at + length (places_from (k + 1) q (drop (k + 1) ls)) ≡ end) × (drop at lu ≡ drop at old)
-  line_no e =
-      (ap (λ (l : List ℕ). take at lu ++ l) (sym (places_no ls q k hk e)) ∙ one, omega (arith, ap length (places_no ls q k hk e)), three)
-
-pub line_all : (lu ls T : List ℕ) (q k at : ℕ) → length ls ≤ k → take at lu ++ places_from k q (drop k ls) ≡ T → take at lu ≡ T
-line_all lu ls T q k at h one = sym (append-nil (take at lu)) ∙ ap (λ (l : List ℕ). take at lu ++ places_from k q l) (sym (drop_all k ls h)) ∙ one
-
-pub line_end : (ls : List ℕ) (q k at end : ℕ) → length ls ≤ k → at + length (places_from k q (drop k ls)) ≡ end → at ≡ end
-line_end ls q k at end h two = omega (arith, ap (λ (l : List ℕ). length (places_from k q l)) (drop_all k ls h))
 
 -- the lanes one after the other
 counting_push : (a n : ℕ) → range_with_len a (suc n) ≡ range_with_len a n ++ (a + n) ∷ []
