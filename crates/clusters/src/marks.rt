@@ -4,6 +4,7 @@ ghost use Rattle.std.specs.Prelude.{◌≡◌, length, replicate, ◌==◌, slic
 
 /// The lent marks, one for each cell. Letting go of this clears them.
 pub struct Marked<'a> {
+    // 0 or 1: to ask for a list of `bool` would ask more of whoever lends it
     marks: &'a mut [u8],
 }
 

@@ -35,6 +35,7 @@ impl Clustering<'_> {
         let mut made: u16 = 0;
         for found in self.prepared.moves {
             let lane = match self.touched(*found) {
+                // the rest list is lane 0, the first in the list of lanes
                 Touched::Several => 0,
                 Touched::One(root) => match queue_of[root] {
                     Some(queue) => queue,

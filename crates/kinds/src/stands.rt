@@ -70,13 +70,13 @@ impl Kind for Stands {
     }
 }
 
-// a stand without a tram
+// a stand without a tram: 0 and no `None`, as sheets and listings have it
 const EMPTY: u16 = 0;
 
 // the highest number of a tram
 const MOST: u16 = 9999;
 
-// What an order does with a tram.
+// What an order does with a tram. Each kind has acts of its own: a trait over both would need a member and a law for each function here.
 #[derive(Clone, Copy)]
 enum Act {
     Take,

@@ -131,7 +131,7 @@ fn unfolded(heap: Global, text: &[u8]) -> Result<Vec<u8>, AllocError> {
     Ok(sheet)
 }
 
-// The value of a digit, whose letters are small.
+// The value of a digit, whose letters are small: `to_digit` would read capitals too.
 fn hexadecimal(byte: u8) -> u8 {
     match byte {
         b'0'..=b'9' => byte - b'0',

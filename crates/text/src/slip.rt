@@ -8,6 +8,7 @@ use std::fmt;
 /// Where a sheet is wrong: the number of the refusal, the line and the word.
 #[derive(Clone, Copy, Debug, PartialEq)]
 pub struct Slip {
+    // a number and no enum, since a slip is what is printed
     pub number: u8,
     pub line: usize,
     pub word: usize,

@@ -32,6 +32,7 @@ impl LaneRow {
 }
 
 /// How a move stands. A failed one has the failing step, counted from 1, and the cause.
+// not an `Option` of a `Result`: the three have names that everybody in a yard uses
 #[derive(Clone, Copy, Debug, PartialEq)]
 pub enum Outcome {
     NotEnded,
