@@ -41,6 +41,7 @@ impl<V: Drop> Desk<V> {
     }
 }
 
+// A push for each, since a clone of a type parameter's value is not known to be that value.
 fn empty_cells<K: Kind>(heap: Global) -> Result<Vec<K::Value>, AllocError>
     ensures { IfOk result (λ v. v.items ≡ replicate 1024 K.Kind.rows.unnamed) }
 {
