@@ -87,12 +87,7 @@ fn all_at(parents: &[u16], cells: ActiveCells, top: usize) -> bool
     requires { length parents.now ≡ cell_count cells }
     ensures { result ≡ all_at (roots_of parents.now) top (cells_in cells.entry) }
 {
-    for step in cells.steps {
-        if let Some(cell) = cells.counted(*step) {
-            if root(parents, cell) != top {
-                return false;
-            }
-        }
-    }
-    true
+    cells.steps.iter().all(|step| cells
+        .counted(*step)
+        .is_none_or(|cell| root(parents, cell) == top))
 }
