@@ -1,5 +1,5 @@
 -- What a shadow board shows while its changes are read, set and cleared.
-use Rattle.std.proofs.Common.{◌≡◌, ℕ, zero, suc, ◌<◌, min, List, [], ◌∷◌, length, ◌≤◌, ◌++◌, get_or, take, drop, set, Some, None, Option, unwrap_or, sym, refl, ap, ◌∙◌, arith}
+use Rattle.std.proofs.Common.{◌≡◌, ℕ, zero, suc, ◌<◌, min, List, [], ◌∷◌, length, replicate, ◌≤◌, ◌++◌, get_or, take, drop, set, Some, None, Option, unwrap_or, sym, refl, ap, ◌∙◌, arith}
 use lib.Seq.{take-nil}
 use Rattle.yard.specs.Cells.{value_at}
 use Rattle.yard.specs.Told.{gives}
@@ -31,13 +31,10 @@ module _ {V : Type 0} where
   shown_set (c ∷ cs) (b ∷ bs) (suc i) v = ap (λ t. unwrap_or c b ∷ t) (shown_set cs bs i v)
 
   -- where the first places are empty, and those past them as they were
-  emptied : (cs ds : List (Option V)) (n : ℕ) → length ds ≡ n → n ≤ length cs → ((k : ℕ) → k < n → get_or ds k None ≡ None) → ds ++ drop n cs ≡ cleared n cs
-  emptied cs [] zero l h e = refl
-  emptied cs [] (suc n) l h e = absurd (omega arith)
-  emptied cs (d ∷ ds) zero l h e = absurd (omega arith)
-  emptied [] (d ∷ ds) (suc n) l h e = absurd (omega arith)
-  emptied (c ∷ cs) (d ∷ ds) (suc n) l h e =
-      ap (λ t. t ∷ ds ++ drop n cs) (e 0 (omega arith)) ∙ ap (λ t. None ∷ t) (emptied cs ds n (omega arith) (omega arith) (λ k m. e (suc k) (omega arith)))
+  emptied : (cs : List (Option V)) (n : ℕ) → n ≤ length cs → replicate n None ++ drop n cs ≡ cleared n cs
+  emptied cs zero h = refl
+  emptied [] (suc n) h = absurd (omega arith)
+  emptied (c ∷ cs) (suc n) h = ap (λ t. None ∷ t) (emptied cs n (omega arith))
 
   cleared_nil : (n : ℕ) → cleared {V = V} n [] ≡ []
   cleared_nil zero = refl
@@ -66,9 +63,9 @@ module _ {V : Type 0} where
   cleared_past (suc n) (c ∷ cs) = cleared_past n cs
 
   -- once as many places are empty as there are cells
-  module _ (cs ds : List (Option V)) (bs : List V) (n : ℕ) (all : n ≡ min (length cs) (length bs)) (long : length ds ≡ n) (empty : (k : ℕ) → k < n → get_or ds k None ≡ None) where
+  module _ (cs ds : List (Option V)) (bs : List V) (n : ℕ) (all : n ≡ min (length cs) (length bs)) (empty : ds ≡ replicate n None) where
     pub end_changes : ds ++ drop n cs ≡ cleared (length bs) cs
-    end_changes = emptied cs ds n long (omega arith) empty ∙ cleared_all cs (length bs) n all
+    end_changes = rw empty (emptied cs n (omega arith) ∙ cleared_all cs (length bs) n all)
 
     pub end_values : shown (ds ++ drop n cs) bs ≡ take (length cs) bs
     end_values = rw end_changes (cleared_shown cs bs)

@@ -80,10 +80,7 @@ fn clear<V: Copy>(changes: &mut [Option<V>], base: &[V])
     ensures past { drop (length base.now) changes.new ≡ drop (length base.now) changes.old }
 {
     let cells = base.len().min(changes.len());
-    // not `fill`, which promises copies only of what `Clone` gives
-    for change in changes[..cells].iter_mut() {
-        *change = None;
-    }
+    changes[..cells].fill_with(|| None);
 }
 
 #[cfg(test)]

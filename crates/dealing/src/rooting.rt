@@ -65,7 +65,7 @@ fn join_two(parents: &mut [u16], one: usize, other: usize)
     join(parents, one, other);
 }
 
-// Joins the cluster of each of the cells with that of `first`.
+// Joins the cluster of each of the cells with that of `first`. Parents and cells come apart here and where cells are marked or compared: a value of both would only be made from the clusters and taken apart again.
 fn join_with(parents: &mut [u16], first: usize, cells: ActiveCells)
     requires long { length parents.old ≡ cell_count cells }
     requires first { first < length parents.old }

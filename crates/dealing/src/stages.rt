@@ -15,6 +15,7 @@ use crate::prepared::naming::prepare;
 use yard::batch::Batch;
 use yard::kind::Kind;
 
+// Three lists and no struct of them: a struct of parts of lists is not covered by the borrow checker.
 /// Deals a batch with working lists of just the length that is used. They hold 0 afterwards. How many queues were made is returned.
 pub(crate) fn deal<K: Kind>(
     batch: Batch,

@@ -95,7 +95,7 @@ impl Kind for Feeders {
 // the highest number of amperes in a sheet
 const MOST: u16 = 4000;
 
-// What an order does with a load.
+// What an order does with a load. Each kind has acts of its own: a trait over both would need a member and a law for each function here.
 #[derive(Clone, Copy)]
 enum Act {
     Add,
@@ -119,12 +119,7 @@ impl Act {
     fn of_order(order: Order) -> Option<Act>
         ensures { result ≡ cond (feeder_knows order.letter order.number) (feeder_act order.letter) None }
     {
-        let act = Act::of_letter(order.letter)?;
-        if act.takes(order.number) {
-            Some(act)
-        } else {
-            None
-        }
+        Act::of_letter(order.letter).filter(|act| act.takes(order.number))
     }
 
     // Whether the number is in the range of the act.

@@ -100,12 +100,7 @@ impl Act {
     fn of_order(order: Order) -> Option<Act>
         ensures { result ≡ cond (stand_knows order.letter order.number) (stand_act order.letter) None }
     {
-        let act = Act::of_letter(order.letter)?;
-        if act.takes(order.number) {
-            Some(act)
-        } else {
-            None
-        }
+        Act::of_letter(order.letter).filter(|act| act.takes(order.number))
     }
 
     // Whether the number is in the range of the act.

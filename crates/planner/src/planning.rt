@@ -103,7 +103,7 @@ fn plan_batch<K: Kind>(
     )
 }
 
-// Opens a run on a board that holds the values, works it through, and lists it.
+// Opens a run on a board that holds the values, works it through, and lists it. The saved list and the answers come apart, since the changes beside them are lent to the board.
 fn plan_on<K: Kind, B: Board<Value = K::Value>>(
     batch: Batch,
     values: &[K::Value],

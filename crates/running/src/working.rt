@@ -9,6 +9,8 @@ use yard::board::Board;
 use yard::cause::Cause;
 use yard::kind::Kind;
 
+// The board and two lists, and not the run: so the contracts need not say that the rest of it stays.
+
 /// Works the step that comes after `taken` others of the move that begins at `first`. If it fails, the move is set back.
 pub(crate) fn work_step<K: Kind, B: Board<Value = K::Value>>(
     board: &mut B,

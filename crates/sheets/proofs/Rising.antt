@@ -1,6 +1,5 @@
 -- Rows, one after another, over the values of the cells.
-use Rattle.std.proofs.Common.{◌≡◌, ℕ, zero, suc, ◌+◌, true, List, [], ◌∷◌, length, set, replicate, is_ok, IfOk, Ok, Err, Result, sym, refl, ap, ◌∙◌, arith}
-use Rattle.std.specs.List.{FoldsTo}
+use Rattle.std.proofs.Common.{◌≡◌, ℕ, zero, suc, ◌+◌, true, List, length, set, replicate, is_ok, IfOk, Ok, Err, Result, sym, refl, ap, ◌∙◌, arith}
 use Rattle.std.proofs.lemmas.List.{length-set, length-replicate}
 use Rattle.std.proofs.lemmas.Result.{IfOk-weaker}
 use Rattle.text.specs.declared.faults.At.{At}
@@ -11,11 +10,6 @@ use Rattle.yard.specs.Rows.{Rows}
 use Rattle.sheets.specs.declared.lines.Row.{Row}
 use Rattle.sheets.specs.Lines.{Read, read, row_line}
 use Rattle.sheets.specs.Sections.{in_line, row_into, occupied, Occupied, repeat, rows_over, rows_read, leaves, values_read}
-
--- calls that give one value each time fill a list with it
-pub filled : {P A : Type 0} (R : P → A → P → Type 0) (u : A) → ((p : P) (x : A) (q : P) → R p x q → x ≡ u) → (p : P) (xs : List A) (q : P) → FoldsTo R p xs q → xs ≡ replicate (length xs) u
-filled R u e p [] q h = refl
-filled R u e p (x ∷ xs) q h = λ i. e p x h.0 h.1 i ∷ filled R u e h.0 xs q h.2 i
 
 abbrev after : {V : Type 0} → List V → Read (Row V) → Result (Read (Occupied V)) (At LineFault)
 after vs r = Ok (read (occupied (r.got.cell + 1) (set vs r.got.cell r.got.value)) r.then)

@@ -11,7 +11,7 @@ use crate::lines::Head;
 use crate::lines::reading::{kind_line, occupancy_line};
 use crate::sections::{FoundMoves, check_rows, in_line, read_choices, read_moves};
 use arrayvec::ArrayVec;
-use text::faults::{At, LineFault};
+use text::faults::{At, LineFault, fault_at};
 use text::reader::Reader;
 use yard::full::CHOICES;
 use yard::kind::Kind;
@@ -41,10 +41,7 @@ pub(crate) fn read_body<K: Kind>(reader: &mut Reader, head: Head) -> Result<Foun
     let batch = read_moves::<K>(reader, head.size.cells)?;
     let choices = read_choices(reader, batch.moves.len() as u16)?;
     if !reader.at_end() {
-        return Err(At {
-            number: reader.line(),
-            fault: LineFault::Lacking,
-        });
+        return fault_at(Err(LineFault::Lacking), reader.line());
     }
     Ok(Found { batch, choices })
 }

@@ -21,6 +21,7 @@ pub(crate) fn value_of(part: &[u8]) -> Result<u16, WordFault>
     ensures { result ≡ worth part.now }
 {
     let mut value: u16 = 0;
+    // a loop with `?`, which ends where the value is too large
     for byte in part {
         // saturating, since whoever makes a `Word` of their own may put any bytes into it
         let digit = u16::from(byte.saturating_sub(b'0'));

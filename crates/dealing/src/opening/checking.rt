@@ -50,6 +50,7 @@ fn end_to_end(moves: &[Move], count: usize) -> bool
     ensures { result ≡ end_to_end 0 moves.now count }
 {
     let mut at = 0;
+    // a loop, since each move is held against the end of the one before
     for found in moves {
         if !follows(*found, at) {
             return false;

@@ -1,5 +1,6 @@
 use Rattle.std.proofs.Common.{◌≡◌, ◌++◌, length, drop, rules, arith, length-take}
-use Rattle.sheets.proofs.Rising.{filled, written}
+use Rattle.yard.proofs.Filling.{filled}
+use Rattle.sheets.proofs.Rising.{written}
 use Rattle.sheets.proofs.sections.write_values.Goals as goal
 
 pub returns : goal.returns
