@@ -10,10 +10,17 @@ use std::io::{self, Read};
 pub fn read_sheet<R: Read + Drop>(input: R, heap: Global) -> io::Result<Vec<u8>>
     ensures { IfOk result (λ sheet. IfSome (R.remaining input) (λ bytes. vec_items sheet ≡ take 32769 bytes)) }
 {
-    let mut sheet = Vec::new(heap);
-    let mut front = input.take(MOST_BYTES as u64 + 1);
-    front.read_to_end(&mut sheet)?;
-    Ok(sheet)
+    read_front(input, MOST_BYTES as u64 + 1, heap)
+}
+
+// So many bytes at most.
+fn read_front<R: Read + Drop>(input: R, most: u64, heap: Global) -> io::Result<Vec<u8>>
+    ensures { IfOk result (λ read. IfSome (R.remaining input) (λ bytes. vec_items read ≡ take most bytes)) }
+{
+    let mut read = Vec::new(heap);
+    let mut front = input.take(most);
+    front.read_to_end(&mut read)?;
+    Ok(read)
 }
 
 #[cfg(test)]
