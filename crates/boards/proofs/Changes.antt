@@ -7,10 +7,10 @@ use Rattle.boards.specs.Shadow.{shown, cleared}
 use Rattle.boards.proofs.Cells.{value_within}
 
 module _ {V : Type 0} where
-  pub length-shown : (cs : List (Option V)) (bs : List V) → length (shown cs bs) ≡ min (length cs) (length bs)
-  length-shown [] bs = omega arith
-  length-shown (c ∷ cs) [] = omega arith
-  length-shown (c ∷ cs) (b ∷ bs) = let h = length-shown cs bs in omega arith
+  pub length_shown : (cs : List (Option V)) (bs : List V) → length (shown cs bs) ≡ min (length cs) (length bs)
+  length_shown [] bs = omega arith
+  length_shown (c ∷ cs) [] = omega arith
+  length_shown (c ∷ cs) (b ∷ bs) = let h = length_shown cs bs in omega arith
 
   get_or-shown : (cs : List (Option V)) (bs : List V) (i : ℕ) (o : Option V) (b v : V) → i < length cs → i < length bs → get_or (shown cs bs) i v ≡ unwrap_or (get_or cs i o) (get_or bs i b)
   get_or-shown [] bs i o b v h k = absurd (omega arith)
@@ -20,7 +20,7 @@ module _ {V : Type 0} where
 
   pub shown_at : (cs : List (Option V)) (bs : List V) (i : ℕ) (o : Option V) (b v : V) → i < min (length cs) (length bs) → v ≡ unwrap_or (get_or cs i o) (get_or bs i b) → gives v ≡ value_at (shown cs bs) i
   shown_at cs bs i o b v h is =
-      let k : i < length (shown cs bs) = omega (arith, length-shown cs bs) in
+      let k : i < length (shown cs bs) = omega (arith, length_shown cs bs) in
       value_within (shown cs bs) i v k (is ∙ sym (get_or-shown cs bs i o b v (omega arith) (omega arith)))
 
   pub shown_set : (cs : List (Option V)) (bs : List V) (i : ℕ) (v : V) → shown (set cs i (Some v)) bs ≡ set (shown cs bs) i v

@@ -51,10 +51,12 @@ impl<V: Copy> Board for ShadowBoard<'_, '_, V> {
 
     ghost around = { shadow_around };
 
+    #[tactic(auto, using(crate::proofs::Changes::length_shown))]
     fn count(&self) -> usize {
         self.cells()
     }
 
+    #[tactic(auto, using(crate::proofs::Changes::length_shown, crate::proofs::Changes::shown_at, crate::proofs::Cells::value_past))]
     fn get(&self, cell: usize) -> Result<V, Refusal> {
         if cell < self.cells() {
             Ok(self.changes[cell].unwrap_or(self.base[cell]))
@@ -63,6 +65,7 @@ impl<V: Copy> Board for ShadowBoard<'_, '_, V> {
         }
     }
 
+    #[tactic(auto, using(crate::proofs::Changes::length_shown, crate::proofs::Changes::shown_set, crate::proofs::Cells::there_within, crate::proofs::Cells::there_past, std::proofs::lemmas::List::set_past))]
     fn set(&mut self, cell: usize, value: V) -> Result<(), Refusal> {
         if cell < self.cells() {
             self.changes[cell] = Some(value);
