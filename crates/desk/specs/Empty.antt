@@ -1,15 +1,8 @@
--- A desk on which nothing has been read yet. 32 is the space, which is no order's letter.
+-- What lies on a desk, and a desk on which nothing has been read yet.
 use Rattle.std.specs.Prelude.{◌≡◌, replicate, vec_items}
-use Rattle.yard.specs.declared.batch.Move.{Move}
-use Rattle.yard.specs.declared.batch.Step.{Step}
+use Rattle.yard.specs.Moves.{nothing_written, nothing_in_moves}
 use Rattle.sheets.specs.Sheet.{Lists, lists}
 use Rattle.desk.specs.declared.lists.Desk.{Desk}
-
-abbrev no_move : Move
-no_move = record { label = 0; first = 0; count = 0 }
-
-abbrev no_step : Step
-no_step = record { cell = 0; order = record { letter = 32; number = 0 } }
 
 -- what lies on a desk
 abbrev pub on_desk : {V : Type 0} → Desk V → Lists V
@@ -17,6 +10,6 @@ on_desk d = lists (vec_items d.values) (vec_items d.moves) (vec_items d.steps) (
 
 pub record LaidOut {V : Type 0} (unnamed : V) (d : Desk V) : Type 0 where
   pub values : vec_items d.values ≡ replicate 1024 unnamed
-  pub moves : vec_items d.moves ≡ replicate 256 no_move
-  pub steps : vec_items d.steps ≡ replicate 1024 no_step
+  pub moves : vec_items d.moves ≡ replicate 256 nothing_in_moves
+  pub steps : vec_items d.steps ≡ replicate 1024 nothing_written
   pub choices : vec_items d.choices ≡ replicate 64 0
