@@ -1,6 +1,7 @@
 //! What a run keeps in its lists, what can be asked of it, and what it answers.
 
 ghost use Rattle.std.specs.Prelude.{◌≡◌, slice_range};
+ghost use Rattle.yard.specs.declared.run.Call.TheVariants as asked;
 
 use crate::cause::Cause;
 use crate::part::part;
@@ -41,12 +42,19 @@ pub enum Outcome {
 }
 
 /// What is asked of a run: the next step of a lane, the value of a cell, or how far the run is. The default alters nothing.
-#[derive(Clone, Copy, Debug, Default, PartialEq)]
+#[derive(Clone, Copy, Debug, PartialEq)]
 pub enum Call {
     Step(usize),
     Look(usize),
-    #[default]
     Tally,
+}
+
+impl Default for Call {
+    ghost is_default = { λ call. call ≡ asked.Tally };
+
+    fn default() -> Call {
+        Call::Tally
+    }
 }
 
 /// How far a run is: the steps accepted, and the moves done, failed and not ended.
