@@ -3,6 +3,7 @@
 use yard::batch::{Move, Step};
 
 pub mod laying;
+pub mod reading;
 
 #[derive(Drop)]
 pub struct Desk<V: Drop> {

@@ -7,11 +7,11 @@
 
 use desk::lists::Desk;
 use desk::lists::laying::lay_out;
+use desk::lists::reading::read_onto;
 use kinds::feeders::Feeders;
 use kinds::stands::Stands;
 use planner::kind::YardKind;
 use planner::kind::choosing::kind_of;
-use sheets::read::read;
 use std::alloc::{AllocError, Global};
 use text::slip::Slip;
 use yard::full::{CELLS, CHOICES, MOVES, STEPS};
@@ -74,7 +74,7 @@ fn tell<K: Kind>(rt: &HostRuntime, short: Option<Short>, sheet: &[u8]) -> anyhow
     if let Some(short) = short {
         short.shorten(&mut desk);
     }
-    match read::<K>(sheet, &mut desk.lists()) {
+    match read_onto::<K>(sheet, &mut desk) {
         Ok(n) => println!(rt;
             "{} {} {} {} {} {}",
             n.cells, n.share, n.rows, n.moves, n.steps, n.choices
@@ -121,8 +121,10 @@ fn unfolded(heap: Global, text: &[u8]) -> Result<Vec<u8>, AllocError> {
                 Reading::Times
             }
             (Reading::Text, _) => {
-                let length = sheet.len().saturating_add(times.max(1) as usize);
-                sheet.resize(length, *byte)?;
+                // a push for each: `resize` makes room of another size, and so fails where pushes do not
+                for _ in 0..times.max(1) {
+                    sheet.push(*byte)?;
+                }
                 times = 0;
                 Reading::Text
             }

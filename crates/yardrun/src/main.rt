@@ -4,13 +4,13 @@
 
 use desk::lists::Desk;
 use desk::lists::laying::lay_out;
+use desk::lists::reading::read_onto;
 use desk::sheet::read_sheet;
 use kinds::feeders::Feeders;
 use kinds::stands::Stands;
 use planner::kind::YardKind;
 use planner::kind::choosing::kind_of;
 use sheets::counts::Counts;
-use sheets::read::read;
 use text::slip::Slip;
 use yard::kind::Kind;
 
@@ -29,7 +29,7 @@ fn run(rt: &HostRuntime) -> anyhow::Result<()> {
 // Says what the sheet holds, or where it is wrong.
 fn tell<K: Kind>(rt: &HostRuntime, kind: &str, sheet: &[u8]) -> anyhow::Result<()> {
     let mut desk = lay_out::<K>(rt.alloc())?;
-    match read::<K>(sheet, &mut desk.lists()) {
+    match read_onto::<K>(sheet, &mut desk) {
         Ok(counts) => {
             println!(rt; "{kind}, {} cells, share {}", counts.cells, counts.share)?;
             println!(rt; "{} rows", counts.rows)?;
