@@ -1,6 +1,6 @@
 //! The step calls that work a run through.
 
-ghost use Rattle.std.specs.Prelude.{◌≡◌, ◌+◌, ◌≤◌, ◌++◌, length, replicate};
+ghost use Rattle.std.specs.Prelude.{◌≡◌, ◌+◌, ◌≤◌, [], ◌++◌, length, replicate};
 ghost use Rattle.arrayvec.specs.ArrayVec.{array_vec_len};
 ghost use Rattle.yard.specs.declared.run.Call.TheVariants.{Step as StepOn};
 ghost use Rattle.dealing.specs.Examining.{AllBelow};
@@ -18,21 +18,21 @@ use yard::run::{Call, LaneRow};
 /// As many step calls as work any run through: eight on each move.
 pub(crate) const CALLS: usize = 2048;
 
-/// The step calls that work the run through: on each queue as many as its moves have steps, then on the rest list.
+/// Fills an empty list with the step calls that work the run through: on each queue as many as its moves have steps, then on the rest list.
 pub(crate) fn step_calls<K: Kind, B: Board<Value = K::Value>>(
     run: &Run<K, B>,
-) -> ArrayVec<Call, CALLS>
-    requires { Callable (numbers_in run.now.script.opening) run.now.script.batch.moves.now run.now.script.line_up.now run.now.lanes.now 2048 }
-    ensures { result.items
+    calls: &mut ArrayVec<Call, CALLS>,
+)
+    requires callable { Callable (numbers_in run.now.script.opening) run.now.script.batch.moves.now run.now.script.line_up.now run.now.lanes.now 2048 }
+    requires empty { calls.old.items ≡ [] }
+    ensures { calls.new.items
         ≡ step_calls_of (numbers_in run.now.script.opening) run.now.script.batch.moves.now run.now.script.line_up.now run.now.lanes.now }
 {
     let queues = usize::from(run.script.opening.queues());
-    let mut calls = ArrayVec::new();
     for (place, row) in run.lanes[1..=queues].iter().enumerate() {
-        call_lane(run.script, place + 1, *row, &mut calls);
+        call_lane(run.script, place + 1, *row, calls);
     }
-    call_lane(run.script, 0, run.lanes[0], &mut calls);
-    calls
+    call_lane(run.script, 0, run.lanes[0], calls);
 }
 
 // The step calls on a lane: as many as its moves have steps.

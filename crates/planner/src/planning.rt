@@ -14,7 +14,8 @@ ghost use Rattle.dealing.specs.Lent.{SameRunLists};
 ghost use Rattle.planner.specs.Opening.{OpenedIn};
 ghost use Rattle.planner.specs.Plan.{planned, planned_batch};
 
-use crate::calling::{CALLS, step_calls};
+use crate::calling::step_calls;
+use arrayvec::ArrayVec;
 use boards::shadow::ShadowBoard;
 use dealing::opening::Opening;
 use dealing::opening::lists::{RunLists, WorkLists};
@@ -185,6 +186,7 @@ fn work_through<K: Kind, B: Board<Value = K::Value>>(
         (range_with_len 1 run.old.script.opening.queues) }
     ensures keeps { Keeps B.Board.around run.old run.new }
 {
-    let calls = step_calls::<K, B>(run);
+    let mut calls = ArrayVec::new();
+    step_calls::<K, B>(run, &mut calls);
     run.perform(&calls, answers)
 }

@@ -8,8 +8,9 @@ ghost use Rattle.sheets.specs.Sheet.{answering, read_into};
 use crate::counts::Counts;
 use crate::faults::SheetFault;
 use crate::lists::SheetLists;
-use crate::sections::write_values;
-use crate::sheet::{read_body, read_head};
+use crate::sections::{FoundMoves, write_values};
+use crate::sheet::{Found, read_body, read_head};
+use arrayvec::ArrayVec;
 use text::reader::Reader;
 use yard::kind::Kind;
 
@@ -33,7 +34,14 @@ pub fn read<K: Kind>(sheet: &[u8], lists: &mut SheetLists<K::Value>) -> Result<C
     let mut reader = Reader::new(sheet);
     let head = read_head::<K>(&mut reader)?;
     let mut at_rows = reader;
-    let found = read_body::<K>(&mut reader, head)?;
+    let mut found = Found {
+        batch: FoundMoves {
+            moves: ArrayVec::new(),
+            steps: ArrayVec::new(),
+        },
+        choices: ArrayVec::new(),
+    };
+    read_body::<K>(&mut reader, head, &mut found)?;
     // all is right: from here on the lists are written
     write_values::<K>(&mut at_rows, head, lists.values);
     put_front(lists.moves, found.batch.moves.as_slice());

@@ -7,7 +7,7 @@ ghost use Rattle.text.specs.declared.faults.LineFault.{LineFault as lineFault};
 ghost use Rattle.text.specs.Faults.{on_err, at_number};
 ghost use Rattle.text.specs.Reading.{here, Here};
 ghost use Rattle.sheets.specs.Lines.{Read, ReadsAs};
-ghost use Rattle.sheets.specs.Sections.{leaves, leaves_at, repeat, listing, in_line, rows_over, rows_read, values_read, moves_of, move_into};
+ghost use Rattle.sheets.specs.Sections.{leaves, repeat, listing, in_line, rows_over, rows_read, values_read, moves_of, move_into};
 ghost use Rattle.sheets.specs.Sheet.{batch, choices};
 
 use crate::lines::Head;
@@ -126,36 +126,33 @@ fn read_move<K: Kind>(
     Ok(())
 }
 
-/// The number of moves, and all of them with their steps.
+/// The number of moves, and all of them with their steps, which go to empty lists.
 #[tactic(auto, using(crate::proofs::Repeating::next))]
 pub(crate) fn read_moves<K: Kind>(
     reader: &mut Reader,
     cells: u16,
-) -> Result<FoundMoves, At<LineFault>>
-    ensures { leaves_at result (λ found. moves_of found.moves.items found.steps.items) (here reader.new) ≡ batch K.Kind.rules cells (here reader.old) }
+    found: &mut FoundMoves,
+) -> Result<(), At<LineFault>>
+    requires moves { found.old.moves.items ≡ [] }
+    requires steps { found.old.steps.items ≡ [] }
+    ensures { leaves result (moves_of found.new.moves.items found.new.steps.items) (here reader.new) ≡ batch K.Kind.rules cells (here reader.old) }
 {
     let count = in_line(reader, |reader| count_line(reader, 'M', MOVES as u16))?;
-    let mut found = FoundMoves {
-        moves: ArrayVec::new(),
-        steps: ArrayVec::new(),
-    };
     for _ in 0..count {
-        read_move::<K>(reader, cells, &mut found)?;
+        read_move::<K>(reader, cells, found)?;
     }
-    Ok(found)
+    Ok(())
 }
 
-/// The number of choices, and all of them.
+/// The number of choices, and all of them, which go to an empty list.
 pub(crate) fn read_choices(
     reader: &mut Reader,
     moves: u16,
-) -> Result<ArrayVec<u16, CHOICES>, At<LineFault>>
-    ensures { leaves_at result (λ found. found.items) (here reader.new) ≡ choices moves (here reader.old) }
+    found: &mut ArrayVec<u16, CHOICES>,
+) -> Result<(), At<LineFault>>
+    requires { found.old.items ≡ [] }
+    ensures { leaves result found.new.items (here reader.new) ≡ choices moves (here reader.old) }
 {
     let count = in_line(reader, |reader| count_line(reader, 'C', CHOICES as u16))?;
-    let mut found = ArrayVec::new();
-    read_each(reader, count, &mut found, |reader| {
-        choice_line(reader, moves)
-    })?;
-    Ok(found)
+    read_each(reader, count, found, |reader| choice_line(reader, moves))
 }

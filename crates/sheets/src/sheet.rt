@@ -1,6 +1,6 @@
 //! Reading a whole sheet, section by section.
 
-ghost use Rattle.std.specs.Prelude.{◌≡◌, ◌≤◌, Ok, IfOk};
+ghost use Rattle.std.specs.Prelude.{◌≡◌, ◌≤◌, [], Ok, IfOk};
 ghost use Rattle.text.specs.Faults.{and_then};
 ghost use Rattle.text.specs.Reading.{here};
 ghost use Rattle.sheets.specs.Lines.{answered};
@@ -33,15 +33,24 @@ pub(crate) fn read_head<K: Kind>(reader: &mut Reader) -> Result<Head, At<LineFau
     Ok(Head { size, rows })
 }
 
-/// All that follows the head: the rows are checked, the rest is kept.
-pub(crate) fn read_body<K: Kind>(reader: &mut Reader, head: Head) -> Result<Found, At<LineFault>>
-    ensures { and_then result (λ found. Ok (sheet_by head (values_read (rows_read K.Kind.rows head.size.cells head.rows (here reader.old))) found)) ≡ body K.Kind.rules K.Kind.rows head (here reader.old) }
+/// All that follows the head: the rows are checked, the rest goes to empty lists.
+// lent, since a list of an array is as long as its array, and would be copied with each return
+pub(crate) fn read_body<K: Kind>(
+    reader: &mut Reader,
+    head: Head,
+    found: &mut Found,
+) -> Result<(), At<LineFault>>
+    requires moves { found.old.batch.moves.items ≡ [] }
+    requires steps { found.old.batch.steps.items ≡ [] }
+    requires choices { found.old.choices.items ≡ [] }
+    ensures { and_then result (λ _. Ok (sheet_by head (values_read (rows_read K.Kind.rows head.size.cells head.rows (here reader.old))) found.new)) ≡ body K.Kind.rules K.Kind.rows head (here reader.old) }
 {
     check_rows::<K>(reader, head)?;
-    let batch = read_moves::<K>(reader, head.size.cells)?;
-    let choices = read_choices(reader, batch.moves.len() as u16)?;
+    read_moves::<K>(reader, head.size.cells, &mut found.batch)?;
+    let moves = found.batch.moves.len() as u16;
+    read_choices(reader, moves, &mut found.choices)?;
     if !reader.at_end() {
         return fault_at(Err(LineFault::Lacking), reader.line());
     }
-    Ok(Found { batch, choices })
+    Ok(())
 }

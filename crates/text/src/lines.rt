@@ -34,6 +34,12 @@ pub(crate) fn first_word(bytes: &[u8]) -> &[u8]
 pub(crate) fn has_words(line: &[u8], count: usize) -> bool
     ensures { result ≡ has_words count line.now }
 {
-    let is_space = |byte: &u8| *byte == SPACE;
-    line.split(is_space).all(|word| !word.is_empty()) && line.split(is_space).count() == count
+    let mut words: usize = 0;
+    for word in line.split(|byte| *byte == SPACE) {
+        if word.is_empty() {
+            return false;
+        }
+        words += 1;
+    }
+    words == count
 }

@@ -12,7 +12,7 @@ call_lane-requires-clause-room g c =
       room_for_queue s.batch.moves.now s.line_up.now c.args.run.now.lanes.now s.opening.queues c.from-queues.result c.loop-place.place c.loop-place.calls.items
           (step_calls_of (numbers_in s.opening) s.batch.moves.now s.line_up.now c.args.run.now.lanes.now)
           (c.from-queues.ensures ∙ c.queues.ensures) (omega arith) c.loop-place.invariant,
-      c.requires.few,
+      c.requires.callable.few,
     )
 
 pub loop-place-preserved : goal.loop-place-preserved

@@ -6,8 +6,8 @@ use Rattle.planner.proofs.Finishing.{worked_whole}
 use Rattle.planner.proofs.OpenedCalls.{callable}
 use Rattle.planner.proofs.planning.work_through.Goals as goal
 
-pub step_calls-calls-requires : goal.step_calls-calls-requires
-step_calls-calls-requires g c =
+pub step_calls-requires-clause-callable : goal.step_calls-requires-clause-callable
+step_calls-requires-clause-callable g c =
     let run = c.args.run.now in
     callable g.K.Kind.rules (listed run.script.batch) _ (numbers_in run.script.opening) run.script.line_up.now run.lanes.now run.outcomes.now
     2048 c.requires.opened (omega arith)
@@ -18,7 +18,7 @@ returns-clause-whole g c =
     let R = g.K.Kind.rules in
     let b = listed run.script.batch in
     let n = numbers_in run.script.opening in
-    let calls = c.deref.ensures.0 ∙ c.step_calls-calls.ensures in
+    let calls = c.deref.ensures.0 ∙ c.step_calls.ensures in
     let can = callable R b _ n run.script.line_up.now run.lanes.now run.outcomes.now 2048 c.requires.opened (omega arith) in
     worked_whole R b n run.script.line_up.now run.lanes.now run.outcomes.now (g.B.Board.values run.board.now) run.saved.now
     g.met.K.Kind.looks c.requires.opened (omega (arith, run.script.opening.few_steps, c.requires.saved))
