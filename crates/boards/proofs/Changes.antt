@@ -1,5 +1,5 @@
 -- What a shadow board shows while its changes are read, set and cleared.
-use Rattle.std.proofs.Common.{◌≡◌, ℕ, zero, suc, ◌<◌, min, List, [], ◌∷◌, length, replicate, ◌≤◌, ◌++◌, get_or, take, drop, set, Some, None, Option, unwrap_or, sym, refl, ap, ◌∙◌, arith}
+use Rattle.std.proofs.Common.{◌≡◌, ℕ, zero, suc, ◌+◌, ◌<◌, min, List, [], ◌∷◌, length, replicate, ◌≤◌, ◌++◌, get_or, take, drop, set, Some, None, Option, unwrap_or, sym, refl, ap, ◌∙◌, add-one, arith}
 use lib.Seq.{take-nil}
 use Rattle.yard.specs.Cells.{value_at}
 use Rattle.yard.specs.Told.{gives}
@@ -35,6 +35,16 @@ module _ {V : Type 0} where
   emptied cs zero h = refl
   emptied [] (suc n) h = absurd (omega arith)
   emptied (c ∷ cs) (suc n) h = ap (λ t. None ∷ t) (emptied cs n (omega arith))
+
+  cleared_suc : (n : ℕ) (cs : List (Option V)) → set (cleared n cs) n None ≡ cleared (suc n) cs
+  cleared_suc zero [] = refl
+  cleared_suc zero (c ∷ cs) = refl
+  cleared_suc (suc n) [] = refl
+  cleared_suc (suc n) (c ∷ cs) = ap (λ t. None ∷ t) (cleared_suc n cs)
+
+  -- one place more emptied
+  pub cleared_more : (n : ℕ) (cs : List (Option V)) → set (cleared n cs) n None ≡ cleared (n + 1) cs
+  cleared_more n cs = rw add-one (cleared_suc n cs)
 
   cleared_nil : (n : ℕ) → cleared {V = V} n [] ≡ []
   cleared_nil zero = refl

@@ -128,6 +128,9 @@ module _ (ps : List ℕ) (p q : ℕ) (p_top : up_of ps p ≡ p) (q_top : up_of p
   pub write_fuses : min p q < max p q → max p q < length ps → (x : ℕ) → root_of (set ps (min p q) (max p q)) x ≡ fused p q (root_of ps x)
   write_fuses l h x = rw (write_law ps (min p q) (max p q) l h min_top max_top x) (grind (arith, nat_tests))
 
+pub fused_swap : (p q r : ℕ) → fused p q r ≡ fused q p r
+fused_swap p q r = grind (arith, nat_tests)
+
 pub fused_same : (p q r : ℕ) → p ≡ q → r ≡ fused p q r
 fused_same p q r e = grind (arith, nat_tests)
 

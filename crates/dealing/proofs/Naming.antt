@@ -1,12 +1,12 @@
 -- Which cells are active, and which of them a move names: one turn of each loop over steps.
-use Rattle.std.proofs.Common.{◌≡◌, ℕ, ◌+◌, ◌<◌, ◌≤◌, Bool, true, false, cond, ◌&&◌, ◌||◌, eqb, List, [], ◌∷◌, length, get_or, drop, set, Some, None, sym, refl, ap, ◌∙◌, inl, inr, arith}
-use Rattle.std.proofs.lemmas.List.{drop_more, drop_all, get_or-set_same, get_or-set_other}
+use Rattle.std.proofs.Common.{◌≡◌, ℕ, ◌+◌, ◌-◌, ◌<◌, ◌≤◌, Bool, true, false, cond, ◌&&◌, ◌||◌, eqb, List, [], ◌∷◌, length, get_or, take, drop, set, Some, None, sym, refl, ap, ◌∙◌, inl, inr, arith}
+use Rattle.std.proofs.lemmas.List.{drop_more, drop_all, get_or-set_same, get_or-set_other, get_or-take, get_or-drop, length-take-le, length-drop}
 use Rattle.std.proofs.lemmas.Bool.{cases_eq, eq-eqb, ne_eqb}
 use Rattle.std.proofs.lemmas.List.FromFn.{fill_by_all}
 use Rattle.yard.specs.Rules.{Rules}
 use Rattle.yard.specs.Moves.{written}
 use Rattle.yard.specs.declared.batch.Step.{Step}
-use Rattle.dealing.specs.Active.{active_flags, active_cells, no_step, head_of}
+use Rattle.dealing.specs.Active.{active_flags, active_cells, no_step, Within, head_of}
 
 pub or_false : (b : Bool) → (b || false) ≡ b
 or_false true = refl
@@ -66,4 +66,8 @@ pub head_none : (cs : List ℕ) → None ≡ head_of cs → cs ≡ []
 head_none [] e = refl
 head_none (d ∷ cs) e = absurd (let z : ◌≡◌ {A = ℕ} 0 1 = cc in omega arith)
 
--- the steps of a move, as a part of all steps
+-- a part of steps within some cells is within them
+pub part_within : (n f c : ℕ) (steps : List Step) → f + c ≤ length steps → Within n steps → Within n (take (f + c - f) (drop f steps))
+part_within n f c steps h w k l =
+    let e : length (take (f + c - f) (drop f steps)) ≡ f + c - f = length-take-le (f + c - f) (drop f steps) (omega (arith, length-drop f steps)) in
+    rw (get_or-take (f + c - f) (drop f steps) k no_step (omega arith), get_or-drop f steps k no_step) (w (f + k) (omega arith))

@@ -33,3 +33,11 @@ wrote_on (b ∷ bs) p (y ∷ q) at end lent e d h room =
 pub wrote_whole : (text page : List ℕ) (lent : ℕ) → length text ≤ length page → length page ≤ 2 ^ 64 - 1
     → wrote text (standing page 0 lent) ≡ standing (laid text page) (length text) lent
 wrote_whole text page lent h room = wrote_on text [] page 0 (length text) lent refl (omega arith) h (omega arith)
+
+wrote_lent : (bs : List ℕ) (s : Penned) → (wrote bs s).lent ≡ s.lent
+wrote_lent [] s = refl
+wrote_lent (b ∷ bs) s = wrote_lent bs (put_on b s)
+
+-- the page is still that of the list that a fresh pen was given, however long the text
+pub still_lent : (text page : List ℕ) (lent : ℕ) {s t : Penned} → s ≡ standing page 0 lent → t ≡ wrote text s → t.lent ≡ lent
+still_lent text page lent {s} e d = ap (λ (u : Penned). u.lent) d ∙ wrote_lent text s ∙ ap (λ (u : Penned). u.lent) e
