@@ -1,7 +1,6 @@
 //! Examining a move: which special clusters it touches. The roots of its cells are marked while that is found out.
 
 ghost use Rattle.std.specs.Prelude.{◌≡◌, length, replicate};
-ghost use Rattle.arrayvec.specs.ArrayVec.{array_vec_len};
 ghost use Rattle.clusters.specs.Roots.{roots_of};
 ghost use Rattle.dealing.specs.Clustering.{roots_in, cell_total, named_by, Continues};
 ghost use Rattle.dealing.specs.Counting.{Specials};
@@ -14,41 +13,47 @@ use crate::clustering::Clustering;
 use crate::prepared::ActiveCells;
 use crate::rooting::root;
 use crate::special::Special;
-use arrayvec::ArrayVec;
 use clusters::marks::Marked;
 use yard::batch::Move;
-use yard::full::CHOICES;
 
 impl Clustering<'_> {
-    /// Which special clusters a move touches. Each is known by one of its cells.
-    pub(crate) fn hits(&mut self, found: Move, special: &[Special]) -> ArrayVec<bool, CHOICES>
-        requires { Specials (cell_total self.old) (cells_known special.now) }
-        ensures hits { result.items ≡ hits_of (roots_in self.old) (cells_known special.now) (named_by self.old found) }
+    /// Which special clusters a move touches, and how many. Each is known by one of its cells.
+    // into a lent list: this is done for each move, and an array that is handed back is copied
+    pub(crate) fn hits(&mut self, found: Move, special: &[Special], hit: &mut [bool]) -> usize
+        requires special { Specials (cell_total self.old) (cells_known special.now) }
+        requires room { length hit.old ≡ length special.now }
+        ensures hits { hit.new ≡ hits_of (roots_in self.old) (cells_known special.now) (named_by self.old found) }
+        ensures count { result ≡ trues (hits_of (roots_in self.old) (cells_known special.now) (named_by self.old found)) }
+        ensures long { length hit.new ≡ length hit.old }
         ensures parents { self.new.parents.now ≡ self.old.parents.now }
         ensures same { Continues self.old self.new }
     {
         let cells = self.prepared.cells_of(found);
-        touched_ones(self.parents, self.marks, cells, special)
+        touched_ones(self.parents, self.marks, cells, special, hit)
     }
 }
 
-// Which special clusters some cells touch, found out with the marks. The parents stay: a `&mut`, since a proof does not know that a field lent as `&` out of a `&mut` stays.
+// Which special clusters some cells touch, and how many, found out with the marks. The parents stay: a `&mut`, since a proof does not know that a field lent as `&` out of a `&mut` stays.
 fn touched_ones(
     parents: &mut [u16],
     marks: &mut [u8],
     cells: ActiveCells,
     special: &[Special],
-) -> ArrayVec<bool, CHOICES>
+    hit: &mut [bool],
+) -> usize
     requires long { length parents.old ≡ cell_count cells }
     requires marks { length marks.old ≡ length parents.old }
     requires special { Specials (length parents.old) (cells_known special.now) }
-    ensures hits { result.items ≡ hits_of (roots_of parents.old) (cells_known special.now) (cells_in cells.entry) }
+    requires room { length hit.old ≡ length special.now }
+    ensures hits { hit.new ≡ hits_of (roots_of parents.old) (cells_known special.now) (cells_in cells.entry) }
+    ensures count { result ≡ trues (hits_of (roots_of parents.old) (cells_known special.now) (cells_in cells.entry)) }
+    ensures kept { length hit.new ≡ length hit.old }
     ensures parents { parents.new ≡ parents.old }
     ensures clear { marks.new ≡ replicate (length marks.old) 0 }
 {
     let mut marked = Marked::over(marks);
     mark_roots(&mut marked, parents, cells);
-    marked_ones(&marked, parents, special)
+    marked_ones(&marked, parents, special, hit)
 }
 
 // Marks the roots of the cells.
@@ -66,21 +71,22 @@ fn mark_roots(marked: &mut Marked, parents: &[u16], cells: ActiveCells)
     }
 }
 
-// Which special clusters are marked.
-fn marked_ones(marked: &Marked, parents: &[u16], special: &[Special]) -> ArrayVec<bool, CHOICES>
-    requires { Specials (length parents.now) (cells_known special.now) }
-    ensures { result.items ≡ seen (marks_in marked.now) (roots_of parents.now) (cells_known special.now) }
+// Which special clusters are marked, and how many.
+fn marked_ones(marked: &Marked, parents: &[u16], special: &[Special], hit: &mut [bool]) -> usize
+    requires special { Specials (length parents.now) (cells_known special.now) }
+    requires room { length hit.old ≡ length special.now }
+    ensures which { hit.new ≡ seen (marks_in marked.now) (roots_of parents.now) (cells_known special.now) }
+    ensures count { result ≡ trues (seen (marks_in marked.now) (roots_of parents.now) (cells_known special.now)) }
+    ensures kept { length hit.new ≡ length hit.old }
 {
-    let mut hit = ArrayVec::new();
-    for one in special {
-        hit.push(marked.is_marked(root(parents, usize::from(one.cell))));
+    let mut count = 0;
+    // by place: after `iter_mut` with a `zip`, a proof does not know what was written
+    for (i, one) in special.iter().enumerate() {
+        let touched = marked.is_marked(root(parents, usize::from(one.cell)));
+        hit[i] = touched;
+        if touched {
+            count += 1;
+        }
     }
-    hit
-}
-
-/// How many of the special clusters are touched.
-pub(crate) fn touched_count(hit: &[bool]) -> usize
-    ensures { result ≡ trues hit.now }
-{
-    hit.iter().filter(|touched| **touched).count()
+    count
 }

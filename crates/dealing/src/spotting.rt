@@ -9,7 +9,6 @@ ghost use Rattle.dealing.specs.Special.{cells_known, sizes_in};
 ghost use Rattle.dealing.specs.Stages.{clusters_of, spot_one, spot as spotted};
 
 use crate::clustering::Clustering;
-use crate::examining::touched_count;
 use crate::special::Special;
 use arrayvec::ArrayVec;
 use yard::batch::Move;
@@ -27,9 +26,11 @@ impl Clustering<'_> {
         ensures same { Continues self.old self.new }
     {
         let mut special = ArrayVec::new();
+        let mut hit = [false; CHOICES];
         for choice in choices {
             let found = self.prepared.moves[usize::from(*choice)];
-            if let Some(cell) = self.spot_move(found, &special) {
+            let hit = &mut hit[..special.len()];
+            if let Some(cell) = self.spot_move(found, &special, hit) {
                 special.push(Special {
                     cell: cell as u16,
                     size: 0,
@@ -40,15 +41,16 @@ impl Clustering<'_> {
     }
 
     // Joins the clusters of a chosen move to a special one, if it has an active cell and touches no special cluster: its first active cell is then returned.
-    fn spot_move(&mut self, found: Move, special: &[Special]) -> Option<usize>
-        requires { Specials (cell_total self.old) (cells_known special.now) }
+    fn spot_move(&mut self, found: Move, special: &[Special], hit: &mut [bool]) -> Option<usize>
+        requires special { Specials (cell_total self.old) (cells_known special.now) }
+        requires room { length hit.old ≡ length special.now }
         ensures spotted { clusters_of (roots_in self.new) (with_one (cells_known special.now) result)
             ≡ spot_one (named_by self.old found) (clusters_of (roots_in self.old) (cells_known special.now)) }
         ensures within { IfSome result (λ cell. cell < cell_total self.old) }
         ensures same { Continues self.old self.new }
     {
         let first = self.prepared.cells_of(found).first()?;
-        if touched_count(&self.hits(found, special)) > 0 {
+        if self.hits(found, special, hit) > 0 {
             return None;
         }
         self.join_cells(found);

@@ -1,4 +1,4 @@
-use Rattle.std.proofs.Common.{◌≡◌, ◌+◌, [], length, get_or, take, sym, ◌∙◌, arith}
+use Rattle.std.proofs.Common.{◌≡◌, ◌+◌, [], length, get_or, take, sym, ap, ◌∙◌, rules, arith}
 use Rattle.std.proofs.lemmas.List.{length-take-le, take_all}
 use Rattle.dealing.specs.Active.{no_move}
 use Rattle.dealing.specs.Clustering.{roots_in, named_by, named_by_all, known, sizes}
@@ -12,10 +12,10 @@ use Rattle.dealing.proofs.clustering.SpecialClusters.fuse.Goals as goal
 pub loop-found-init : goal.loop-found-init
 loop-found-init c =
     let s = c.args.self.now in
-    (rw c.requires.skipped (fusing_none (known s) (roots_in s.clusters) (sizes s) s.pairs.now c.requires.pairs s.known.few), going_on s)
+    (rw c.requires.skipped (fusing_none (known s) (roots_in s.clusters) (sizes s) s.pairs.now c.requires.pairs s.known.few), going_on s, search rules)
 
-pub fuse_move-requires : goal.fuse_move-requires
-fuse_move-requires c =
+pub fuse_move-requires-clause-growable : goal.fuse_move-requires-clause-growable
+fuse_move-requires-clause-growable c =
     let s = c.args.self.now in
     let p = s.clusters.prepared in
     let css = named_by_all s.clusters in
@@ -44,7 +44,18 @@ loop-found-preserved c =
     let cells : named_by now.clusters found ≡ get_or css i [] = rw so_far.clusters.prepared (sym (cells_at p.active.now p.steps.now p.moves.now i (omega arith))) in
     let more = c.fuse_move.ensures.fused (fuse (known s) (take i css) start) c.loop-found.invariant.0 in
     let state = fuse_more (known s) css i (named_by now.clusters found) start (omega (arith, length_cells p.active.now p.steps.now p.moves.now)) cells in
-    (rw (so_far.known, state) at more, goes_further so_far c.fuse_move.ensures.same)
+    let same = c.fuse_move.ensures.same in (
+      rw (so_far.known, state) at more,
+      goes_further so_far same,
+      omega (
+        arith,
+        c.fuse_move.ensures.long,
+        c.loop-found.invariant.2,
+        cells_long now.special.items,
+        cells_long c.fuse_move.new.self.special.items,
+        ap length same.known,
+      ),
+    )
 
 pub returns-clause-fused : goal.returns-clause-fused
 returns-clause-fused c =
